@@ -1,5 +1,11 @@
+pub mod Changing
 pub mod Commands
+pub mod Gone
 pub mod Listed
+pub mod Mapped
 pub mod Moves
 pub mod Needing
+pub mod Parts
 pub mod Refusing
+pub mod Summed
+pub mod Touched

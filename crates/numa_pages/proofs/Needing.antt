@@ -1,8 +1,9 @@
 -- Memory lacks only where it is needed.
-use Rattle.std.proofs.Common.{◌≡◌, ◌≢◌, ℕ, ◌-◌, Bool, true, false, Option, Some, None, List, [], Err}
-use Rattle.std.proofs.Common.{refl, sym, ap, ◌∙◌, inl, inr, is_some, arith}
-use Rattle.std.proofs.lemmas.Bool.{both_ways, or_from}
-use Rattle.std.specs.Prelude.{Result, is_ok, if◌then◌else◌}
+use Rattle.std.proofs.Common.{◌≡◌, ◌≢◌, ℕ, ◌-◌, Bool, true, false, Option, Some, None, List, []}
+use Rattle.std.proofs.Common.{Err}
+use Rattle.std.proofs.Common.{refl, sym, ap, subst, ◌∙◌, inl, inr, is_some, arith}
+use Rattle.std.proofs.lemmas.Bool.{both_ways, cases_Bool, or_from}
+use Rattle.std.specs.Prelude.{◌||◌, Result, is_ok, if◌then◌else◌}
 use Rattle.numa_core.specs.Executions.{world_of}
 use Rattle.numa_core.specs.Standing.{CoreStandsFor, CoreState, HasPast, setup_of}
 use Rattle.numa_core.specs.Steps.{IsAnswer, because, refused_or}
@@ -25,7 +26,7 @@ use Rattle.numa_requests.specs.declared.refusal.Refusal.{Refusal}
 use Rattle.numa_space.specs.History.{page_of, page_count}
 use Rattle.numa_space.specs.Pages.{page_in}
 use Rattle.numa_space.specs.Refusals.{PageMap, refusal_of, scene_of}
-use Rattle.numa_space.specs.Standing.{StandsFor}
+use Rattle.numa_space.specs.Standing.{SpaceState, StandsFor}
 use Rattle.numa_space.specs.Steps.{LacksRoom, MayNeedRoom}
 use Rattle.numa_space.proofs.Refused.{refusal-not_memory}
 use Rattle.numa_placed.specs.Astray.{astray_cause, is_astray, judged_end, judged_pages}
@@ -33,7 +34,10 @@ use Rattle.numa_placed.specs.Astray.{strict_cause_by, strict_span_cause}
 use Rattle.numa_placed.specs.Refusals.{first_of, span_cause}
 use Rattle.numa_placed.specs.declared.spot.Spot.{Spot}
 use Rattle.numa_placed.specs.declared.spot.Spot.TheVariants.{Nowhere}
-use Rattle.numa_page_state.specs.Lying.{Lying, Process, motion}
+use Rattle.numa_huge.specs.Huge.{HugeLying}
+use Rattle.numa_huge.specs.Moves.{HugeMemory, is_astray as huge_strays}
+use Rattle.numa_page_state.specs.Huge.{huge_astray, huge_count, huge_first}
+use Rattle.numa_page_state.specs.Lying.{Lying, Process, motion, process_in}
 use Rattle.numa_page_state.specs.Outcomes.{Done, Lack, along_outcome, has_stated, is_astray_cause}
 use Rattle.numa_page_state.specs.Outcomes.{lack_in, unless_refused}
 use Rattle.numa_page_state.specs.Standing.{DoesAs, LiesAs}
@@ -43,8 +47,9 @@ use Rattle.numa_page_state.specs.declared.shift.Shift.{Shift}
 use Rattle.numa_page_state.specs.declared.state.PageState.{PageState}
 use Rattle.numa_page_state.proofs.Judging.{none-astray}
 use Rattle.numa_page_state.proofs.Unmapping.{nothing-stated}
-use Rattle.numa_pages.specs.Changes.{BindsStrictly, PagesState, lacking, lies_astray, may_fill}
-use Rattle.numa_pages.specs.Changes.{process_of}
+use Rattle.numa_pages.specs.Changes.{BindsStrictly, PagesState, huge_in, lacking, lies_astray}
+use Rattle.numa_pages.specs.Changes.{may_fill, process_of}
+use Rattle.numa_pages.specs.Sizes.{alone, any_astray}
 use Rattle.numa_pages.specs.declared.refusal.ChangeRefusal.TheVariants as change
 use Rattle.numa_pages.proofs.Refusing.{lies-so, lying_in, room-said}
 
@@ -126,46 +131,98 @@ astray-some process spots said kept is none =
     said.list) kept in
     both_ways (has_astray process spots said) (or_from _ _ stated held) is
 
+-- nor one of 2 MiB
+huge-none : (process : Process) (huge : HugeLying) (said : Binding) → said.length ≡ 0
+    → huge_astray process (alone huge) said ≡ false
+huge-none process huge said none =
+    let judged : judged_of process said ≡ 0 = none-judged process.machine.rules
+    (page_in process.machine process.history) (page_of said.start) (page_count said.length)
+    (ap page_count none) in
+    let count : huge_count (page_of said.start) (judged_of process said) ≡ 0 =
+    ap (huge_count (page_of said.start)) judged in
+    any_page-false (λ page. huge_strays said.list (huge.spots page))
+    (huge_first (page_of said.start)) (huge_count (page_of said.start) (judged_of process said))
+    (λ page low high. absurd (omega (arith, low, high, count)))
+
+pub any-some : (process : Process) (huge : HugeLying) (spots : ℕ → Spot) (said : Binding)
+    → process.kept ≡ [] → any_astray process huge spots said ≡ true → said.length ≢ 0
+any-some process huge spots said kept is none = elim (cases_Bool (has_astray process spots said)) [
+  | inl small ↦ astray-some process spots said kept small none
+  | inr clear ↦ both_ways (any_astray process huge spots said)
+      (or_from _ _ clear (huge-none process huge said none)) is
+]
+
 abbrev strict_if : Bool → Binding → Option Binding
 strict_if default said = if default then None else Some said
 
-strict-some : (default : Bool) (said : Binding) (process : Process) (spots : ℕ → Spot)
-    → process.kept ≡ [] → lies_astray (strict_if default said) process spots ≡ true
-    → said.length ≢ 0
-strict-some true said process spots kept is = absurd (both_ways false refl is)
-strict-some false said process spots kept is = astray-some process spots said kept is
+strict-some : (default : Bool) (said : Binding) (process : Process) (huge : HugeLying)
+    (spots : ℕ → Spot) → process.kept ≡ []
+    → lies_astray (strict_if default said) process huge spots ≡ true → said.length ≢ 0
+strict-some true said process huge spots kept is = absurd (both_ways false refl is)
+strict-some false said process huge spots kept is = any-some process huge spots said kept is
 
 -- only a policy for some bytes has pages that lie astray
-pub astray-needs : (command : Command) (process : Process) (spots : ℕ → Spot)
-    → process.kept ≡ [] → lies_astray (strict_binding_in command) process spots ≡ true
+pub astray-needs : (command : Command) (process : Process) (huge : HugeLying) (spots : ℕ → Spot)
+    → process.kept ≡ [] → lies_astray (strict_binding_in command) process huge spots ≡ true
     → MayNeedRoom command
-astray-needs (Mbind start bytes spec) process spots kept is =
+astray-needs (Mbind start bytes spec) process huge spots kept is =
     strict-some (is_default spec)
-    (record { start = start; length = bytes; list = spec.mask }) process spots kept is
-astray-needs (Map start bytes offset size) process spots kept is = tt
-astray-needs (Unmap start bytes) process spots kept is = absurd (both_ways false refl is)
-astray-needs (SetTask task spec) process spots kept is = absurd (both_ways false refl is)
-astray-needs (Inherit task from) process spots kept is = tt
-astray-needs (SetHome start bytes node) process spots kept is = absurd (both_ways false refl is)
-astray-needs (SetWeight node weight) process spots kept is = absurd (both_ways false refl is)
-astray-needs (SetMems mask) process spots kept is = absurd (both_ways false refl is)
+    (record { start = start; length = bytes; list = spec.mask }) process huge spots kept is
+astray-needs (Map start bytes offset size) process huge spots kept is = tt
+astray-needs (Unmap start bytes) process huge spots kept is = absurd (both_ways false refl is)
+astray-needs (SetTask task spec) process huge spots kept is = absurd (both_ways false refl is)
+astray-needs (Inherit task from) process huge spots kept is = tt
+astray-needs (SetHome start bytes node) process huge spots kept is =
+    absurd (both_ways false refl is)
+astray-needs (SetWeight node weight) process huge spots kept is = absurd (both_ways false refl is)
+astray-needs (SetMems mask) process huge spots kept is = absurd (both_ways false refl is)
 
 -- memory lacks for judging pages that lie astray
 pub judging-lacks : (pages : PagesState) (command : Command) → HasPast pages.core
     → ((history : List Command) (lying : Lying) → StandsFor pages.core.space history
     → LiesAs pages.state lying → lies_astray (strict_binding_in command)
-    (process_of pages history) lying.spots ≡ true) → MayNeedRoom command
+    (process_of pages history) (huge_in pages) lying.spots ≡ true) → MayNeedRoom command
 judging-lacks pages command past astray =
     let history = (world_of (setup_of pages.core) past.past).history in
-    astray-needs command (process_of pages history) (lying_in pages.state).spots refl
-    (astray history (lying_in pages.state) past.leads.stands.space (lies-so pages.state))
+    astray-needs command (process_of pages history) (huge_in pages) (lying_in pages.state).spots
+    refl (astray history (lying_in pages.state) past.leads.stands.space (lies-so pages.state))
+
+-- whether pages of 4 KiB lie astray, and those of 2 MiB, by the space and the kept frames as they
+-- were read
+abbrev SmallStray : PagesState → Binding → Bool → SpaceState → Kept → Type 0
+SmallStray pages said small space kept = (lying : Lying) (history : List Command)
+    → LiesAs pages.state lying → StandsFor space history
+    → small ≡ has_astray (process_in space history kept) lying.spots said
+
+abbrev HugeStray : PagesState → Binding → Bool → SpaceState → Type 0
+HugeStray pages said large space = (memory : HugeMemory) (history : List Command) (kept : Kept)
+    → huge_in pages ≡ memory.pages → StandsFor space history
+    → large ≡ huge_astray (process_in space history kept) memory said
+
+pub strays-so : (pages : PagesState) (space : SpaceState) (kept : Kept) (said : Binding)
+    (small large : Bool) → space ≡ pages.core.space → kept ≡ []
+    → SmallStray pages said small space kept → small ≡ false → HugeStray pages said large space
+    → (history : List Command) (lying : Lying) → StandsFor pages.core.space history
+    → LiesAs pages.state lying
+    → large ≡ any_astray (process_of pages history) (huge_in pages) lying.spots said
+strays-so pages space kept said small large same none small_is clear large_is history lying of
+    lies =
+    let one : small ≡ has_astray (process_of pages history) lying.spots said =
+    (subst (λ (s : SpaceState). SmallStray pages said small s []) same
+    (subst (λ (k : Kept). SmallStray pages said small space k) none small_is)) lying history lies of
+    in
+    let two : large ≡ huge_astray (process_of pages history) (alone (huge_in pages)) said =
+    (subst (λ (s : SpaceState). HugeStray pages said large s) same large_is) (alone (huge_in pages))
+    history [] refl of in
+    two ∙ sym (ap (λ (b : Bool). b || huge_astray (process_of pages history) (alone (huge_in pages))
+    said) (sym one ∙ clear))
 
 -- a page lies astray of a policy
 abbrev pub Strays : ℕ → ℕ → Specification → PagesState → Type 0
 Strays start bytes spec pages = (history : List Command) (lying : Lying)
     → StandsFor pages.core.space history → LiesAs pages.state lying
     → lies_astray (strict_binding_in (Mbind start bytes spec)) (process_of pages history)
-    lying.spots ≡ true
+    (huge_in pages) lying.spots ≡ true
 
 -- then nothing has changed
 pub not-judged : (before : PagesState) (start bytes : ℕ) (spec : Specification)
@@ -177,6 +234,7 @@ not-judged before start bytes spec past astray = record {
   refused = tt;
   room = judging-lacks before (Mbind start bytes spec) past astray;
   pages = refl;
+  huge = refl;
   setup = refl;
   unchanged = refl;
 }

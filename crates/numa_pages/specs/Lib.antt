@@ -1,3 +1,5 @@
 pub mod Changes
 pub mod Listing
+pub mod PoolCalls
+pub mod Sizes
 pub mod Trials

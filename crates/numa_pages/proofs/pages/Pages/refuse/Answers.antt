@@ -6,7 +6,11 @@ use Rattle.numa_pages.proofs.pages.Pages.refuse.Goals as goal
 
 pub unreachable-requires : goal.unreachable-requires
 unreachable-requires c =
-    let pages : PagesState = record { core = c.self.inside.core; state = c.self.inside.state } in
+    let pages : PagesState = record {
+      core = c.self.inside.core;
+      state = c.self.inside.state;
+      huge = c.self.inside.huge;
+    } in
     not-accepted pages c.command_of.result c.in-Ok.field-0.version c.published.ensures.past
     (subst (Stands pages) (sym c.command_of.ensures)
     (subst (λ (p : PagesState). Stands p (command_of c.args.said)) (sym c.self.view_is)
