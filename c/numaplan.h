@@ -81,7 +81,8 @@ enum np_answer {
     NP_NO_SUCH_NODE = 17,      /* EINVAL: a node that the machine lacks */
     NP_BAD_WEIGHT = 18,        /* EINVAL: a weight of 0 or above 255 */
     NP_NODES_NOT_ALLOWED = 19, /* EINVAL: the policy would have no node */
-    NP_NOT_SUPPORTED = 20,     /* EOPNOTSUPP: a home for a policy that takes none */
+    NP_NOT_SUPPORTED = 20,     /* EOPNOTSUPP: a home for a policy that takes none; a statement about
+                                  a page of 2 MiB */
     NP_TOO_MANY_TASKS = 21,    /* ENOMEM: as many tasks have a policy as the limits allow */
     NP_TOO_MANY_RANGES = 22,   /* ENOMEM: there would be more ranges than the limits allow */
     NP_NO_POLICY_THERE = 23,   /* ENOENT: by the kernel's rules, a home where no page has one */
@@ -151,12 +152,19 @@ enum np_answer {
     NP_ASTRAY = 101,             /* EIO: a page lies on a node for which the policy doesn't ask */
     NP_NO_SUCH_TARGET = 102,     /* ENODEV: the machine lacks the node, or it has no memory */
     NP_TARGET_NOT_ALLOWED = 103, /* EACCES: the node isn't allowed */
-    NP_PAGE_UNMAPPED = 104,      /* EFAULT: the page isn't mapped */
+    NP_PAGE_UNMAPPED = 104,      /* EFAULT: the page isn't mapped; also of np_pages_fault */
     NP_NOT_PLACED = 105,         /* ENOENT: the page lies nowhere */
     NP_NODE_FULL = 106,          /* ENOMEM: the node has no room for the page, or for so many */
     NP_OCCUPIED = 107,           /* EEXIST: the page lies somewhere; no call answers so yet */
     NP_NO_SUCH_CPU = 108,        /* EINVAL: the machine lacks the node of the task's CPU */
-    NP_SPAN_UNMAPPED = 109       /* ENOMEM: a page of the span that is touched isn't mapped */
+    NP_SPAN_UNMAPPED = 109,      /* ENOMEM: a page of the span that is touched isn't mapped */
+
+    /* of pages of 2 MiB, their pools, or the first touch of one page */
+    NP_NO_SUCH_POOL = 110,  /* ENOENT: the machine lacks the node, or it has no memory */
+    NP_UNSURE = 111,        /* Linux takes all the node's memory where its pool is resized so */
+    NP_NO_HUGE_PAGES = 112, /* ENOMEM: a mapping finds too few free pages that aren't reserved */
+    NP_NODES_FULL = 113,    /* no node of the page's list has room for it */
+    NP_NO_PAGE_FREE = 114   /* SIGBUS: no node of its list gives a page of 2 MiB */
 };
 
 /* ---- types */
@@ -335,10 +343,10 @@ uint32_t np_core_map(np_core *core, uint64_t start, uint64_t length, uint64_t of
  *
  * All calls name and count pages of 4 KiB, of which such a page is 512, its parts; only
  * np_core_explain and its text count the index in pages of 2 MiB, and np_core_maps counts these.
- * Each part has the list of nodes that a kernel goes by for its page. But there are no pools, and
- * where pages are placed each part goes by itself, as in no kernel: np_core_touch and all that
- * workers do, np_core_fill and other calls with free pages, np_core_replay, and what an np_pages of
- * this core says of its pages. */
+ * Each part has the list of nodes that a kernel goes by for its page. But there are no pools (an
+ * np_pages has them: np_pages_map_huge), and where pages are placed each part goes by itself, as in
+ * no kernel: np_core_touch and all that workers do, np_core_fill and other calls with free pages,
+ * np_core_replay, and what an np_pages that copies this core says of these pages. */
 uint32_t np_core_map_huge(np_core *core, uint64_t start, uint64_t length, uint64_t offset);
 
 /* Unmaps the pages of a span, those among them that are mapped. */

@@ -5,15 +5,21 @@
  * with where its pages lie: a caller states that pages lie on nodes, or has a task touch them for
  * the first time; and then they go where Linux moves them: when the allowed nodes change, by
  * migrate_pages(2), move_pages(2) and mbind(2). Each command for that core is given to the
- * np_pages, so that what it says of the pages fits the core as it is: a page that was unmapped lies
- * nowhere any more.
+ * np_pages, so that what it says of the pages fits the core as it is: a page that was unmapped
+ * lies nowhere any more.
  *
  * Pages lie only where it was stated, and where they went since. Frames that workers take
  * (np_core_touch, seats) are separate.
- * A page of 2 MiB (np_core_map_huge) is 512 pages here, each of which is touched, lies and moves by
- * itself; a kernel's comes and moves whole.
- * There are at most 1,048,576 runs of pages that lie on one node. Pages that one policy puts on
- * nodes in turn (np_pages_populate) count as one run. */
+ *
+ * Pages of 2 MiB are those that np_pages_map_huge maps: they come from pools (hugetlb), and come
+ * and move whole. They take no room of a node, nor do pages of 4 KiB take any of the pools. Where
+ * pages lie is said in pages of 4 KiB, of which one of 2 MiB is 512; what moves or comes counts
+ * once, whatever its size; pools count pages of 2 MiB. (Those that the core had when np_pages_open
+ * copied it, from np_core_map_huge, come from no pool: each is 512 pages here, which come and move
+ * one by one.)
+ *
+ * There are at most 1,048,576 runs of pages that lie on one node, and as many of pages of 2 MiB.
+ * Pages that one policy puts on nodes in turn (np_pages_populate) count as one run. */
 #include "numaplan.h" /* (which includes numaplan_hosts.h, and that this file, for its structs) */
 
 #ifndef NUMAPLAN_PLACED_H
@@ -59,24 +65,31 @@ typedef struct np_page_run {
     uint8_t node;
 } np_page_run;
 
+/* What the pools of pages of 2 MiB have: by node how many pages there are, how many of these are
+ * free, and how many surplus (as many end when they become free); and how many free ones are
+ * reserved, on all nodes together. Sometimes a node's surplus exceeds its total. */
+typedef struct np_huge_pools {
+    uint64_t total[256], free[256], surplus[256], reserved;
+} np_huge_pools;
+
 /* The room of a node that never fills. */
 #define NP_ENDLESS UINT64_MAX
 
 #if defined(__cplusplus) && __cplusplus >= 201103L
 static_assert(sizeof(np_pages) == 16 && sizeof(np_page_run) == 24, "a handle, a struct");
 static_assert(sizeof(np_moves) == 2320 && sizeof(np_bound) == 24, "structs");
-static_assert(sizeof(np_arrived) == 2064, "a struct");
+static_assert(sizeof(np_arrived) == 2064 && sizeof(np_huge_pools) == 6152, "structs");
 #elif defined(__STDC_VERSION__) && __STDC_VERSION__ >= 201112L
 _Static_assert(sizeof(np_pages) == 16 && sizeof(np_page_run) == 24, "a handle, a struct");
 _Static_assert(sizeof(np_moves) == 2320 && sizeof(np_bound) == 24, "structs");
-_Static_assert(sizeof(np_arrived) == 2064, "a struct");
+_Static_assert(sizeof(np_arrived) == 2064 && sizeof(np_huge_pools) == 6152, "structs");
 #endif
 
 /* ---- opening and closing */
 
-/* Opens a copy of a core: its pages lie nowhere yet, and no node ever fills. What is then done
- * to one of the two doesn't change the other. NP_OPEN where `pages` keeps one, NP_CLOSED where
- * `core` keeps none, NP_NO_MEMORY. */
+/* Opens a copy of a core: its pages lie nowhere yet, no node ever fills, and the pools have no
+ * page. What is then done to one of the two doesn't change the other. NP_OPEN where `pages` keeps
+ * one, NP_CLOSED where `core` keeps none, NP_NO_MEMORY. */
 uint32_t np_pages_open(np_pages *pages, np_core *core);
 
 /* Frees the core with its pages, if there is one. */
@@ -99,9 +112,11 @@ uint32_t np_pages_version(np_pages *pages, uint64_t *version);
 
 uint32_t np_pages_map(np_pages *pages, uint64_t start, uint64_t length, uint64_t offset);
 
-/* Then the pages of the span lie nowhere any more, and give back the room that they took. It tries
- * that on a copy of the runs of pages, if one of them lies somewhere. First of all:
- * NP_TOO_MANY_RUNS. */
+/* Then the pages of the span lie nowhere any more, and give back the room that they took; those of
+ * 2 MiB become free, and reservations of untouched ones are given back, with which as many free
+ * surplus pages end. It tries that on a copy of the runs of pages, if one of them lies somewhere or
+ * has 2 MiB. First of all: NP_TOO_MANY_RUNS. NP_UNALIGNED also where a border is inside a page of
+ * 2 MiB; so it is of np_pages_mbind and np_pages_set_home. */
 uint32_t np_pages_unmap(np_pages *pages, uint64_t start, uint64_t length);
 
 uint32_t np_pages_mbind(np_pages *pages, uint64_t start, uint64_t length, const uint8_t *policy,
@@ -136,53 +151,98 @@ uint32_t np_pages_mbind_strictly_by(np_pages *pages, uint64_t start, uint64_t le
 /* ---- where pages lie, and how many more a node takes: NP_CLOSED first */
 
 /* States that the mapped pages of a span lie on a node; what isn't mapped is passed over. A
- * later statement counts. In this order: NP_UNALIGNED, NP_OUT_OF_SPACE; NP_NO_SUCH_NODE, also
- * for a node without memory; NP_NODE_FULL where more pages come to the node than it takes;
- * NP_TOO_MANY_RUNS; NP_NO_MEMORY, which may also come before those two. */
+ * later statement counts. In this order: NP_NOT_SUPPORTED where one has 2 MiB; NP_UNALIGNED,
+ * NP_OUT_OF_SPACE; NP_NO_SUCH_NODE, also for a node without memory; NP_NODE_FULL where more pages
+ * come to the node than it takes; NP_TOO_MANY_RUNS; NP_NO_MEMORY, which may also come before those
+ * two. */
 uint32_t np_pages_place(np_pages *pages, uint64_t start, uint64_t length, uint32_t node);
 
 /* Touches each page of a span for the first time, as a task on a CPU of the node `cpu` does that
  * writes to it (madvise(2), MADV_POPULATE_WRITE): the lowest page first, each that lies nowhere
  * goes to the first node of its list that has room by then. Pages that lie somewhere are passed
- * over; one that finds no room stays nowhere, and the next go on. What that did is written to
- * `arrived`, where NP_OK is answered. It is no command: the version stays. In this order:
+ * over; one that finds no room stays nowhere, and the next go on. A page of 2 MiB is given by the
+ * first node of its list with a free page; without a reservation by none, where all free ones are
+ * reserved. What that did is written to `arrived`, where NP_OK is answered, each page counted once,
+ * whatever its size. It is no command: the version stays. In this order:
  * NP_UNALIGNED, NP_OUT_OF_SPACE; NP_NO_SUCH_CPU, where the machine lacks the node;
  * NP_SPAN_UNMAPPED; NP_TOO_MANY_RUNS, NP_NO_MEMORY. */
 uint32_t np_pages_populate(np_pages *pages, uint64_t start, uint64_t length, uint32_t task,
                            uint32_t cpu, np_arrived *arrived);
 
-/* Says how many more pages a node takes from now on: each page that comes to it (by a statement, a
- * first touch or a move) takes one, and each that leaves it (by a later statement, a move or an
- * unmap) gives one back. NP_ENDLESS, as at first: it never fills. NP_NO_SUCH_NODE, also for a node
- * without memory. Needs no memory. */
+/* Says how many more pages of 4 KiB a node takes from now on: each page that comes to it (by a
+ * statement, a first touch or a move) takes one, and each that leaves it (by a later statement, a
+ * move or an unmap) gives one back. NP_ENDLESS, as at first: it never fills. NP_NO_SUCH_NODE, also
+ * for a node without memory. Needs no memory. */
 uint32_t np_pages_set_room(np_pages *pages, uint32_t node, uint64_t room);
 
 /* Writes how many more pages a node takes. NP_NO_SUCH_NODE, as above. */
 uint32_t np_pages_room(np_pages *pages, uint32_t node, uint64_t *room);
 
-/* Writes the node on which the page of an address lies. NP_NOT_PLACED where it lies nowhere. */
+/* Writes the node on which the page of an address lies, of either size. NP_NOT_PLACED where it lies
+ * nowhere. */
 uint32_t np_pages_node(np_pages *pages, uint64_t address, uint32_t *node);
 
-/* The same for an array of pages (their numbers, in whatever order): writes the node on which each
- * lies, or the mark `nowhere`, as 255 on a machine of fewer nodes, at the place in `nodes` that the
- * page has in `numbers`. `places` is `count`, or else the answer is NP_NO_ROOM. Needs no memory. */
+/* The same for an array of pages of 4 KiB (their numbers, in whatever order), parts of those of 2
+ * MiB among them: writes the node on which each lies, or the mark `nowhere`, as 255 on a machine
+ * of fewer nodes, at the place in `nodes` that the page has in `numbers`. `places` is `count`, or
+ * else the answer is NP_NO_ROOM. Needs no memory. */
 uint32_t np_pages_nodes(np_pages *pages, const uint64_t *numbers, size_t count, uint8_t *nodes,
                         size_t places, uint8_t nowhere);
 
-/* Counts, for each node, the pages that lie on it. */
+/* Counts, for each node, the pages of 4 KiB that lie on it, of which one of 2 MiB is 512. */
 uint32_t np_pages_counts(np_pages *pages, np_counts *counts);
 
-/* Writes the runs of pages that lie on one node, in order of address and as long as they can be, at
- * the start of `runs`, and how many they are to `count`. NP_NO_ROOM where `room` is less: then
- * `count` is what is needed, and `runs` is as it was. NP_NO_MEMORY. Of pages that lie on nodes in
- * turn each is a run here, so that there may be more than 1,048,576. */
+/* Writes the runs of pages of 4 KiB that lie on one node, in order of address and as long as they
+ * can be, over pages of both sizes, at the start of `runs`, and how many they are to `count`.
+ * NP_NO_ROOM where `room` is less: then `count` is what is needed, and `runs` is as it was.
+ * NP_NO_MEMORY. Of pages that lie on nodes in turn each is a run here, so that there may be more
+ * than 1,048,576. */
 uint32_t np_pages_runs(np_pages *pages, np_page_run *runs, size_t room, size_t *count);
 
-/* ---- moves: as far as there is room. They go node by node, as Linux does: each time the lowest
- * node whose pages go to a node that isn't still to be emptied, else the highest; of a node the
- * lowest pages first. A node that fills ends the move: the pages that found no room stay, and so do
- * those of all nodes that were still to be emptied. What went where is written to `moves`, where
- * NP_OK is answered */
+/* ---- pages of 2 MiB, and the pools that they come from (hugetlb): NP_CLOSED first */
+
+/* Writes what the pools have. */
+uint32_t np_pages_pools(np_pages *pages, np_huge_pools *pools);
+
+/* Makes the pools of all nodes with memory have `count` pages together that aren't surplus, as a
+ * write to nr_hugepages: surplus pages stay from then on, then fresh ones come in turn, on allowed
+ * nodes alone. Free ones go in turn, never below what is used or reserved; what is still too many
+ * becomes surplus. A node has at most 2^40 pages. Needs no memory. */
+uint32_t np_pages_pool(np_pages *pages, uint64_t count);
+
+/* The same of one node, as a write to its own nr_hugepages; from 2^63 on, `count` is 2^63 - 1.
+ * NP_NO_SUCH_POOL; NP_UNSURE where the node or the others together have more surplus pages than
+ * pages. Needs no memory. */
+uint32_t np_pages_pool_node(np_pages *pages, uint32_t node, uint64_t count);
+
+/* The same of the nodes of a task's policy, as a write of the task to nr_hugepages_mempolicy: the
+ * node `cpu` of its CPU if the policy is "local", all with memory if it has none. NP_NO_SUCH_CPU
+ * where the machine lacks that node. Needs no memory. */
+uint32_t np_pages_pool_for(np_pages *pages, uint64_t count, uint32_t task, uint32_t cpu);
+
+/* Maps a span as np_core_map_huge (mmap(2), MAP_HUGETLB), for a task. With `reserve` its pages are
+ * reserved: they come from the allowed nodes, and if the task's policy is bind, from its nodes
+ * among them. Without (MAP_NORESERVE) a page may lack when it is touched. 10 to 15;
+ * NP_NO_HUGE_PAGES where too few pages are free and not reserved, or too few on those nodes: then
+ * free surplus pages end, as many as it had reserved, which is all that a refusal changes;
+ * NP_TOO_MANY_RANGES; NP_TOO_MANY_RUNS, NP_NO_MEMORY, which may come before all others. */
+uint32_t np_pages_map_huge(np_pages *pages, uint64_t start, uint64_t length, uint64_t offset,
+                           uint32_t task, bool reserve);
+
+/* Touches the page of an address, of either size, for the first time, as a task on a CPU of the
+ * node `cpu` does that writes to it, and writes the node where it lies then, also if it was there
+ * before: the first of its list with room, or with a free page of 2 MiB. No command: the version
+ * stays. In this order: NP_NO_SUCH_CPU where the machine lacks the node; NP_PAGE_UNMAPPED;
+ * NP_NODES_FULL, or of a page of 2 MiB NP_NO_PAGE_FREE; NP_TOO_MANY_RUNS, NP_NO_MEMORY. */
+uint32_t np_pages_fault(np_pages *pages, uint32_t task, uint64_t address, uint32_t cpu,
+                        uint32_t *node);
+
+/* ---- moves: as far as there is room. Pages of 2 MiB lack none: a free page of the new node that
+ * isn't reserved serves, else the page takes its place in the pool along. They go node by node, as
+ * Linux does: each time the lowest node whose pages go to a node that isn't still to be emptied,
+ * else the highest; of a node the lowest pages first. A node that fills ends the move: the pages
+ * that found no room stay, and so do those of all nodes that were still to be emptied. What went
+ * where is written to `moves`, where NP_OK is answered; each page counts once, whatever its size */
 
 /* Changes the nodes on which memory may be placed, as np_pages_set_mems, and moves the pages along,
  * as in a cpuset of cgroup v2, or of v1 with memory_migrate (cpusets(7)): where the old nodes and
@@ -208,7 +268,8 @@ uint32_t np_pages_move(np_pages *pages, uint64_t address, uint32_t node);
 /* Gives the pages of a span a policy as np_pages_mbind, and moves those that lie on nodes that
  * aren't in the policy's list as it is written (mbind(2), MPOL_MF_MOVE; "default" and "local":
  * all): the lowest first, each to the first node with room of its list, as a fault of the task on
- * the node `cpu` would put it; all of them stay where the machine has no such node. What they did
+ * the node `cpu` would put it (of 2 MiB: to the first with a free page that isn't reserved, else to
+ * the first); all of them stay where the machine has no such node. What they did
  * is written to `bound`, where NP_OK is answered; where pages stayed and `strict` (MPOL_MF_STRICT
  * too), which "default" drops, with EIO. A faulty word is answered first: 60 to 63, 70 to 74.
  * NP_CLOSED; 10 to 25; NP_TOO_MANY_RUNS, NP_NO_MEMORY, which no bytes may meet too. */

@@ -30,7 +30,8 @@ from ._causes import ListBackwards, ListBadDigit, ListEmpty, ListTooHigh, ManyPr
 from ._causes import NoMemory, NoMemoryNode, NoNodes
 from ._causes import NodeFull, NoNodeAllowed, NoPolicy, NoPolicyThere, NoRange, NoRoom, NoSuchNode
 from ._causes import NoSuchTarget, NotPlaced, Occupied, PageUnmapped, TargetNotAllowed, TooManyRuns
-from ._causes import NoSuchCpu, NoSuchWorker, NodesForbidden, SpanUnmapped
+from ._causes import NoHugePages, NoPageFree, NoSuchCpu, NoSuchPool, NoSuchWorker, NodesForbidden
+from ._causes import NodesFull, SpanUnmapped, Unsure
 from ._causes import NodesMissing, NodesNotAllowed, NotOwned, NotSupported, Open, OutOfSpace
 from ._causes import Overlap, PlacedTwice, Refused, TooManyFrames, TooManyRanges, TooManyTasks
 from ._causes import Unaligned, Unknown, UnknownMode, Unmapped
@@ -44,8 +45,9 @@ from ._values import effective, nodes, nodes_text, policy_text, rebind
 
 __version__ = "0.10.0"
 __all__ = [
-    "Answer", "Arrived", "Bound", "Core", "Explanation", "Frame", "Group", "Host", "Move", "Moved",
-    "PageRun", "Pages", "Placement", "Plan", "PlanRun", "Policy", "Prediction", "Process",
+    "Answer", "Arrived", "Bound", "Core", "Explanation", "Frame", "Group", "Host", "HugePool",
+    "HugePools", "Move", "Moved", "PageRun", "Pages", "Placement", "Plan", "PlanRun", "Policy",
+    "Prediction", "Process",
     "Question", "Range", "Report", "Route", "Script", "Seat",
     "check", "columns", "diff", "effective", "explain", "machine_lines", "moves", "nodes",
     "nodes_text", "policy_text", "predict", "progress", "rebind", "replay", "sweep", "write_table",
@@ -61,6 +63,7 @@ __all__ = [
     "NoMemory",
     "NoMemoryNode", "NoNodeAllowed", "NoNodes", "NoPolicy", "NodeFull", "NoSuchTarget", "NotPlaced",
     "NoSuchCpu", "Occupied", "PageUnmapped", "SpanUnmapped", "TargetNotAllowed", "TooManyRuns",
+    "NoHugePages", "NoPageFree", "NoSuchPool", "NodesFull", "Unsure",
     "NoPolicyThere", "NoRange", "NoRoom", "NoSuchNode", "NoSuchWorker", "NodesForbidden",
     "NodesMissing", "NodesNotAllowed", "NotOwned", "NotSupported", "Open", "OutOfSpace", "Overlap",
     "PlacedTwice", "Refused", "TooManyFrames", "TooManyRanges", "TooManyTasks", "Unaligned",
@@ -72,7 +75,7 @@ for _one in (Core, Explanation, Move, Placement, Plan, PlanRun, Policy, Predicti
 
 if TYPE_CHECKING:
     from ._hosts import Group, Host, Process
-    from ._pages import Arrived, Bound, Moved, PageRun, Pages
+    from ._pages import Arrived, Bound, HugePool, HugePools, Moved, PageRun, Pages
     from ._progress import progress
     from ._questions import Answer, Question
     from ._reports import Report, check, diff, explain, moves, predict, replay
@@ -83,7 +86,7 @@ else:
     # what a program that asks a core doesn't need, by module: imported where it is first named
     _LATER = {name: module for module, names in {
         "_hosts": ["Group", "Host", "Process"],
-        "_pages": ["Arrived", "Bound", "Moved", "PageRun", "Pages"],
+        "_pages": ["Arrived", "Bound", "HugePool", "HugePools", "Moved", "PageRun", "Pages"],
         "_progress": ["progress"],
         "_questions": ["Answer", "Question"],
         "_reports": ["Report", "check", "diff", "explain", "moves", "predict", "replay"],

@@ -413,6 +413,36 @@ class SpanUnmapped(Refused, LookupError):
     number, words = 109, "a page of the span isn't mapped; map it first, or touch each mapped part"
 
 
+class NoSuchPool(Refused, LookupError):
+    number = 110
+    words = ("the machine lacks the node, or it has no memory, and so no pool; its nodes are numbered"
+             " from 0")
+
+
+class Unsure(Refused, OSError):
+    number = 111
+    words = ("the node or the others together have more surplus pages than pages, where Linux takes"
+             " all the node's memory; let surplus pages end first")
+
+
+class NoHugePages(Refused, OSError):
+    number = 112
+    words = ("too few pages of 2 MiB are free and not reserved, or too few on the nodes that may give"
+             " them; ask the pools, and resize them")
+
+
+class NodesFull(Refused, OSError):
+    number = 113
+    words = ("no node of the page's list has room for it; move others away, or give a node room by"
+             " set_room")
+
+
+class NoPageFree(Refused, OSError):
+    number = 114
+    words = ("no node of the page's list gives a page of 2 MiB, and the task gets SIGBUS; resize the"
+             " pools, or reserve the page when it is mapped")
+
+
 CAUSES: dict[int, type[Refused]] = {cause.number: cause for cause in Refused.__subclasses__()}
 
 

@@ -86,6 +86,13 @@ class ToldArrived(ctypes.Structure):
     _fields_ = [("placed", c_uint64), ("exhausted", c_uint64), ("nodes", c_uint64 * 256)]
 
 
+class ToldPools(ctypes.Structure):
+    """np_huge_pools."""
+
+    _fields_ = [*((name, c_uint64 * 256) for name in ("total", "free", "surplus")),
+                ("reserved", c_uint64)]
+
+
 class ToldBound(ctypes.Structure):
     """np_bound."""
 
@@ -296,6 +303,12 @@ _SIGNATURES = {
     "pages_set_mems": [_HANDLE, _TEXT, c_size_t],
     "pages_place": [_HANDLE, _U64, _U64, _U32],
     "pages_populate": [_HANDLE, _U64, _U64, _U32, _U32, POINTER(ToldArrived)],
+    "pages_pools": [_HANDLE, POINTER(ToldPools)],
+    "pages_pool": [_HANDLE, _U64],
+    "pages_pool_node": [_HANDLE, _U32, _U64],
+    "pages_pool_for": [_HANDLE, _U64, _U32, _U32],
+    "pages_map_huge": [_HANDLE, _U64, _U64, _U64, _U32, c_bool],
+    "pages_fault": [_HANDLE, _U32, _U64, _U32, POINTER(_U32)],
     "pages_set_room": [_HANDLE, _U32, _U64],
     "pages_room": [_HANDLE, _U32, POINTER(_U64)],
     "pages_node": [_HANDLE, _U64, POINTER(_U32)],

@@ -9,7 +9,7 @@ from ._calls import encoded, node_set
 from ._causes import NoRoom, NotPlaced
 from ._cores import Core, by_node
 from ._judged import Nodes, Numbers, ensure, list_of, places_for, u8, u32, u64, u64s_to_read
-from ._library import PagesInRow, ToldArrived, ToldBound, ToldMoves
+from ._library import PagesInRow, ToldArrived, ToldBound, ToldMoves, ToldPools
 from ._owners import Owner, counted
 
 if TYPE_CHECKING:
@@ -27,9 +27,27 @@ class PageRun(NamedTuple):
     node: int
 
 
+class HugePool(NamedTuple):
+    """A node's pool of pages of 2 MiB: how many it has, how many of these are free, and how many surplus
+    (as many end when they become free)."""
+
+    total: int
+    free: int
+    surplus: int
+
+
+class HugePools(NamedTuple):
+    """The pools of pages of 2 MiB (hugetlb): that of each node that has some, and how many free pages are
+    reserved, on all nodes together."""
+
+    nodes: dict[int, HugePool]
+    reserved: int
+
+
 class Moved(NamedTuple):
     """What a move did: how many pages went to another node, how many had a node to go to and stayed,
-    since a node was full, and how many went from which node to which."""
+    since a node was full, and how many went from which node to which. Each page counts once, whatever
+    its size."""
 
     moved: int
     left: int
@@ -38,7 +56,8 @@ class Moved(NamedTuple):
 
 class Arrived(NamedTuple):
     """What a task's first touches of the pages of a span did: how many went to a node, how many found no
-    node with room, and how many went to each node that got some."""
+    node with room, and how many went to each node that got some. Each page counts once, whatever its
+    size."""
 
     placed: int
     exhausted: int
@@ -57,13 +76,14 @@ class Bound(NamedTuple):
 class Pages(Owner):
     """A core together with where its pages lie: as it is stated, or a task touches them first, and then
     where Linux moves them. It has a copy of the core, and each command of that is given here; a page
-    that is unmapped lies nowhere any more. Frames that workers take are apart. A page of 2 MiB is
-    512 pages here, each of which comes and moves by itself; a kernel's comes and moves whole."""
+    that is unmapped lies nowhere any more. Frames that workers take are apart. Pages of 2 MiB are those
+    of `map_huge`: they come from pools, come and move whole, and take no room. (Those that the core had
+    before come from no pool: each is 512 pages here.)"""
 
     _kind = "pages"
 
     def __init__(self, core: Core):
-        """A copy of a core: its pages lie nowhere yet, and no node ever fills."""
+        """A copy of a core: its pages lie nowhere yet, no node ever fills, and the pools have no page."""
         super().__init__()
         ensure("core", core, Core, "Core")
         with core._alone():
@@ -109,7 +129,8 @@ class Pages(Owner):
 
     def unmap(self, start: int, length: int) -> None:
         """Unmaps the pages of `length` bytes from address `start` on, those that are mapped; then
-        they lie nowhere, and give back the room that they took."""
+        they lie nowhere, and give back the room that they took; those of 2 MiB become free, and
+        reservations of untouched ones are given back."""
         self._call("pages_unmap", u64("start", start), u64("length", length))
 
     def mbind(self, start: int, length: int, policy: str, *, strict: bool = False) -> None:
@@ -164,7 +185,8 @@ class Pages(Owner):
 
     def place(self, start: int, length: int, node: int) -> None:
         """States that the mapped pages of `length` bytes from address `start` on lie on a node; a
-        later statement counts. Raises NodeFull where more come to the node than it takes."""
+        later statement counts. Raises NodeFull where more come to the node than it takes, NotSupported
+        where one has 2 MiB."""
         self._call("pages_place", u64("start", start), u64("length", length),
              u32("node", node))
 
@@ -180,7 +202,7 @@ class Pages(Owner):
         return Arrived(told.placed, told.exhausted, by_node(told.nodes))
 
     def set_room(self, node: int, pages: "int | None") -> None:
-        """Says how many more pages a node takes from now on: each page that comes to it (by `place`,
+        """Says how many more pages of 4 KiB a node takes from now on: each page that comes to it (by `place`,
         `populate` or a move) takes one, and each that leaves it (by a later `place`, a move or `unmap`)
         gives one back. None, as at first: it never fills."""
         room = ENDLESS if pages is None else u64("pages", pages)
@@ -217,13 +239,14 @@ class Pages(Owner):
         return into
 
     def counts(self) -> dict[int, int]:
-        """How many pages lie on each node that has some."""
+        """How many pages of 4 KiB lie on each node that has some; one of 2 MiB counts as 512."""
         counts = (c_uint64 * 256)()
         self._call("pages_counts", byref(counts))
         return by_node(counts)
 
     def runs(self) -> list[PageRun]:
-        """The runs of pages that lie on one node, in order of address and as long as they can be."""
+        """The runs of pages of 4 KiB that lie on one node, in order of address and as long as they can
+        be; one of 2 MiB is 512 of them."""
         count, room = c_size_t(), 64
         while True:
             found = (PagesInRow * room)()
@@ -233,6 +256,49 @@ class Pages(Owner):
                 room = count.value
                 continue
             return [PageRun(run.first, run.pages, run.node) for run in found[:count.value]]
+
+    # ---- pages of 2 MiB, and the pools that they come from
+
+    def pools(self) -> HugePools:
+        """What the pools of pages of 2 MiB have."""
+        told = ToldPools()
+        self._call("pages_pools", byref(told))
+        rows = enumerate(zip(told.total, told.free, told.surplus))
+        return HugePools({node: HugePool(*row) for node, row in rows if any(row)}, told.reserved)
+
+    def resize_pools(self, count: int) -> None:
+        """Makes the pools of all nodes with memory have `count` pages together that aren't surplus, as a
+        write to nr_hugepages: surplus pages stay from then on, then fresh ones come in turn, on allowed
+        nodes alone; or free ones go in turn, and what is used or reserved becomes surplus."""
+        self._call("pages_pool", u64("count", count))
+
+    def resize_pool(self, node: int, count: int) -> None:
+        """The same of one node, as a write to its own nr_hugepages. Raises Unsure where Linux takes all
+        the node's memory."""
+        self._call("pages_pool_node", u32("node", node), u64("count", count))
+
+    def resize_pools_for(self, count: int, task: int = 0, cpu: int = 0) -> None:
+        """The same of the nodes of a task's policy, as a write to nr_hugepages_mempolicy by the task on
+        the node `cpu`, whose own it is if the policy is "local"."""
+        self._call("pages_pool_for", u64("count", count), u32("task", task), u32("cpu", cpu))
+
+    def map_huge(self, start: int, length: int, offset: int = 0, *, task: int = 0,
+                 reserve: bool = True) -> None:
+        """Maps a span as pages of 2 MiB, as many as its length takes (MAP_HUGETLB), for a task; the
+        offset is in pages of 4 KiB. With `reserve` they are reserved, and NoHugePages is raised where
+        too few are free: on the allowed nodes, and if the task's policy is bind, on its nodes. Then free
+        surplus pages end, as many as it had reserved. Without (MAP_NORESERVE) a page may lack later."""
+        self._call("pages_map_huge", u64("start", start), u64("length", length),
+             u64("offset", offset), u32("task", task), reserve)
+
+    def fault(self, address: int, task: int = 0, cpu: int = 0) -> int:
+        """Touches the page of an address, of either size, for the first time, as a task on the node
+        `cpu` does that writes to it: the node where it lies then, also if it was there before. Raises
+        NodesFull, or NoPageFree of a page of 2 MiB (the task gets SIGBUS), where no node gives it."""
+        node = c_uint32()
+        self._call("pages_fault", u32("task", task), u64("address", address), u32("cpu", cpu),
+             byref(node))
+        return node.value
 
     # ---- moves, as far as there is room
 
@@ -282,5 +348,5 @@ def _moved(told: ToldMoves) -> Moved:
     return Moved(told.moved, told.left, flows)
 
 
-for _one in (Arrived, Bound, Moved, PageRun, Pages):
+for _one in (Arrived, Bound, HugePool, HugePools, Moved, PageRun, Pages):
     _one.__module__ = "numaplan"  # (as users name them, also where they are pickled)

@@ -53,7 +53,7 @@ OTHERS = {
     **dict.fromkeys(["NoMemory", "AnswerLost"], MemoryError),
     **dict.fromkeys(["BadCpu", "NoRange", "NoSuchCpu", "NoSuchNode", "NoSuchWorker", "NotOwned",
                      "SpanUnmapped", "Unknown", "Unmapped"], LookupError),
-    **dict.fromkeys(["AllTaken", "Busy", "Exhausted", "Idle"], OSError),
+    **dict.fromkeys(["AllTaken", "Busy", "Exhausted", "Idle", "NodesFull", "NoPageFree", "Unsure"], OSError),
     **dict.fromkeys(["OutOfSpace", "NoNodes"], ValueError),  # (of an address, of an empty list)
 }
 

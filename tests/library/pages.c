@@ -674,6 +674,9 @@ static void causes(void) {
         {NP_PAGE_UNMAPPED, EFAULT, "PageUnmapped"}, {NP_NOT_PLACED, ENOENT, "NotPlaced"},
         {NP_NODE_FULL, ENOMEM, "NodeFull"}, {NP_OCCUPIED, EEXIST, "Occupied"},
         {NP_NO_SUCH_CPU, EINVAL, "NoSuchCpu"}, {NP_SPAN_UNMAPPED, ENOMEM, "SpanUnmapped"},
+        {NP_NO_SUCH_POOL, ENOENT, "NoSuchPool"}, {NP_UNSURE, 0, "Unsure"},
+        {NP_NO_HUGE_PAGES, ENOMEM, "NoHugePages"}, {NP_NODES_FULL, 0, "NodesFull"},
+        {NP_NO_PAGE_FREE, 0, "NoPageFree"},
     };
     uint32_t number = 99;
     for (size_t k = 0; k < sizeof all / sizeof *all; k++) {
@@ -685,7 +688,7 @@ static void causes(void) {
         WANT(np_answer_errno(all[k].code, &number), NP_OK);
         WANT(number, all[k].number);
     }
-    WANT(np_answer_errno(110, &number), NP_UNKNOWN);
+    WANT(np_answer_errno(115, &number), NP_UNKNOWN);
 }
 
 /* Commands by the system calls' own words do what those by text do; and an mbind of no bytes whose

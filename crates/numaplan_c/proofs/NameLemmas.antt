@@ -3,7 +3,10 @@ use Rattle.std.proofs.Common.{◌≡◌, ℕ, List, Some, codes, refl}
 use Rattle.numa_requests.specs.HostErrors.{host_errno_of}
 use Rattle.numa_requests.specs.declared.host_refusal.HostRefusal.{HostRefusal}
 use Rattle.numa_requests.specs.declared.host_refusal.HostRefusal.TheVariants as host
-use Rattle.numa_requests.specs.PageErrors.{page_errno_of as placed_errno_of, move_errno_of}
+use Rattle.numa_requests.specs.PageErrors.{page_errno_of as placed_errno_of, huge_errno_of}
+use Rattle.numa_requests.specs.PageErrors.{move_errno_of}
+use Rattle.numa_requests.specs.declared.page_refusal.HugeRefusal.{HugeRefusal}
+use Rattle.numa_requests.specs.declared.page_refusal.HugeRefusal.TheVariants as huge
 use Rattle.numa_requests.specs.declared.page_refusal.MoveRefusal.{MoveRefusal}
 use Rattle.numa_requests.specs.declared.page_refusal.MoveRefusal.TheVariants as move
 use Rattle.numa_requests.specs.declared.page_refusal.PlacedRefusal.{PlacedRefusal}
@@ -14,7 +17,7 @@ use Rattle.numa_requests.specs.declared.refusal.Refusal.TheVariants as refusal
 use Rattle.numaplan_c.specs.Codes.{refusal_code}
 use Rattle.numaplan_c.specs.Hosts.{host_cause_code}
 use Rattle.numaplan_c.specs.Names.{answer_errno, answer_name, host_errno_number, refusal_numbered}
-use Rattle.numaplan_c.specs.Placed.{move_code, placed_code}
+use Rattle.numaplan_c.specs.Placed.{huge_code, move_code, placed_code}
 
 pub numbered-same : (cause : Refusal) → refusal_numbered (refusal_code cause) ≡ Some cause
 numbered-same refusal.CommandsSpent = refl
@@ -116,3 +119,16 @@ move-errno-same move.NotPlaced = refl
 move-errno-same move.NoRoom = refl
 move-errno-same move.TooManyRuns = refl
 move-errno-same move.NoMemory = refl
+
+-- and of what pages of 2 MiB or their pools refuse
+pub huge-errno-same : (cause : HugeRefusal) → answer_errno (huge_code cause) ≡ huge_errno_of cause
+huge-errno-same huge.NoSuchNode = refl
+huge-errno-same huge.BadCpu = refl
+huge-errno-same huge.Unsure = refl
+huge-errno-same huge.NoHugePages = refl
+huge-errno-same huge.Unmapped = refl
+huge-errno-same huge.Exhausted = refl
+huge-errno-same huge.Killed = refl
+huge-errno-same huge.NotSupported = refl
+huge-errno-same huge.TooManyRuns = refl
+huge-errno-same huge.NoMemory = refl

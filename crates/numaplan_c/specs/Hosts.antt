@@ -87,7 +87,7 @@ abbrev pub IsHostSetUp : Result ℕ ListFault → List ℕ → List ℕ → Opti
 IsHostSetUp list frames distances options bounds running =
     IsMachineOf list frames distances options running.host.blank.machine
     × (running.host.blank.bounds ≡ bounds) × HostStandsFor running.host []
-    × HostLies running.pages empty_host
+    × HostLies running.pages (empty_host running.host.blank.machine.memory)
 
 -- ---- questions
 

@@ -8,7 +8,9 @@ use Rattle.numa_requests.specs.declared.host_refusal.HostErrno.{HostErrno}
 use Rattle.numa_requests.specs.declared.host_refusal.HostErrno.TheVariants as host_errno
 use Rattle.numa_requests.specs.declared.host_refusal.HostRefusal.{HostRefusal}
 use Rattle.numa_requests.specs.declared.host_refusal.HostRefusal.TheVariants as host
-use Rattle.numa_requests.specs.PageErrors.{page_errno_of as placed_errno_of, move_errno_of}
+use Rattle.numa_requests.specs.PageErrors.{page_errno_of as placed_errno_of, huge_errno_of}
+use Rattle.numa_requests.specs.PageErrors.{move_errno_of}
+use Rattle.numa_requests.specs.declared.page_refusal.HugeRefusal.TheVariants as huge
 use Rattle.numa_requests.specs.declared.page_refusal.MoveRefusal.TheVariants as move
 use Rattle.numa_requests.specs.declared.page_refusal.PlacedRefusal.TheVariants as placed
 use Rattle.numa_script.specs.Names.{refusal_name}
@@ -99,7 +101,10 @@ late_names =
     ∷ named 102 (codes "NoSuchTarget") ∷ named 103 (codes "TargetNotAllowed")
     ∷ named 104 (codes "PageUnmapped") ∷ named 105 (codes "NotPlaced")
     ∷ named 106 (codes "NodeFull") ∷ named 107 (codes "Occupied")
-    ∷ named 108 (codes "NoSuchCpu") ∷ named 109 (codes "SpanUnmapped") ∷ []
+    ∷ named 108 (codes "NoSuchCpu") ∷ named 109 (codes "SpanUnmapped")
+    ∷ named 110 (codes "NoSuchPool") ∷ named 111 (codes "Unsure")
+    ∷ named 112 (codes "NoHugePages") ∷ named 113 (codes "NodesFull")
+    ∷ named 114 (codes "NoPageFree") ∷ []
 
 -- the name of a number, without a byte where it has none
 abbrev pub name_in : List Named → ℕ → List ℕ
@@ -154,7 +159,9 @@ placed_errnos =
     ∷ move_errno_of move.NoSuchNode ∷ move_errno_of move.NodesNotAllowed
     ∷ move_errno_of move.Unmapped ∷ move_errno_of move.NotPlaced ∷ move_errno_of move.NoRoom
     ∷ placed_errno_of placed.Occupied ∷ placed_errno_of placed.BadCpu
-    ∷ placed_errno_of placed.Unmapped ∷ []
+    ∷ placed_errno_of placed.Unmapped ∷ huge_errno_of huge.NoSuchNode
+    ∷ huge_errno_of huge.Unsure ∷ huge_errno_of huge.NoHugePages
+    ∷ huge_errno_of huge.Exhausted ∷ huge_errno_of huge.Killed ∷ []
 
 abbrev pub placed_errno : ℕ → ℕ
 placed_errno code = if nat_lt code 100 then 0 else slice_index placed_errnos (code - 100)

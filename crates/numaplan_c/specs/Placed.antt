@@ -1,12 +1,15 @@
 -- What the exported calls of pages that are there answer and do.
 use Rattle.std.specs.Prelude.{◌≡◌, ℕ, Option, Some, None, Result, Ok, Err, List, MatchResult}
-use Rattle.numa_pages.specs.Changes.{PagesState}
+use Rattle.numa_pages.specs.Changes.{Faults, PagesState, Touches}
 use Rattle.numa_pages.specs.declared.binding.Rebound.{Rebound}
 use Rattle.numa_pages.specs.declared.listing.PageRun.{PageRun}
 use Rattle.numa_pages.specs.declared.refusal.ChangeRefusal.{ChangeRefusal}
 use Rattle.numa_pages.specs.declared.refusal.ChangeRefusal.TheVariants as change
 use Rattle.numa_page_state.specs.declared.arrived.Arrived.{Arrived}
 use Rattle.numa_placed.specs.declared.moved.Moved.{Moved}
+use Rattle.numa_pools.specs.Pools.{PoolCounts}
+use Rattle.numa_requests.specs.declared.page_refusal.HugeRefusal.{HugeRefusal}
+use Rattle.numa_requests.specs.declared.page_refusal.HugeRefusal.TheVariants as huge
 use Rattle.numa_requests.specs.declared.page_refusal.MoveRefusal.{MoveRefusal}
 use Rattle.numa_requests.specs.declared.page_refusal.MoveRefusal.TheVariants as move
 use Rattle.numa_requests.specs.declared.page_refusal.PlacedRefusal.{PlacedRefusal}
@@ -19,8 +22,9 @@ use Rattle.numaplan_c.specs.Compared.{IsListed}
 use Rattle.numaplan_c.specs.declared.placed_moves.NpBound.{NpBound}
 use Rattle.numaplan_c.specs.declared.placed_moves.NpMoves.{NpMoves}
 use Rattle.numaplan_c.specs.declared.placed_moves.NpArrived.{NpArrived}
+use Rattle.numaplan_c.specs.declared.placed_pools.NpHugePools.{NpHugePools}
 use Rattle.numaplan_handles.specs.Handles.{pages_in}
-use Rattle.numaplan_handles.specs.Pages.{OfPages, Touches}
+use Rattle.numaplan_handles.specs.Pages.{OfPages}
 use Rattle.numaplan_handles.specs.declared.pages_handle.PagesHandle.{PagesHandle}
 
 -- ---- codes
@@ -49,9 +53,23 @@ move_code move.NoRoom = 106
 move_code move.TooManyRuns = 100
 move_code move.NoMemory = 3
 
+-- of pages of 2 MiB and their pools
+abbrev pub huge_code : HugeRefusal → ℕ
+huge_code huge.NoSuchNode = 110
+huge_code huge.BadCpu = 108
+huge_code huge.Unsure = 111
+huge_code huge.NoHugePages = 112
+huge_code huge.Unmapped = 104
+huge_code huge.Exhausted = 113
+huge_code huge.Killed = 114
+huge_code huge.NotSupported = 20
+huge_code huge.TooManyRuns = 100
+huge_code huge.NoMemory = 3
+
 abbrev pub change_code : ChangeRefusal → ℕ
 change_code (change.OfSpace refusal) = refusal_code refusal
 change_code (change.OfPages cause) = placed_code cause
+change_code (change.OfHuge why) = huge_code why
 change_code change.NoMemory = 3
 
 -- of what is done, or refused for a cause
@@ -76,7 +94,7 @@ abbrev pub PagesAnswer : {A E : Type 0} → (E → ℕ)
 PagesAnswer code_of told old code new =
     PagesTell (done_code code_of) (λ answer. Unit {0}) (Unit {0}) told old code new
 
--- the same of a call that states where pages lie, or how many may
+-- the same of a call that pages alone refuse
 abbrev pub PagesSet : {A : Type 0} → (PagesState → Result A PlacedRefusal → PagesState → Type 0)
     → PagesHandle → ℕ → PagesHandle → Type 0
 PagesSet told old code new = PagesAnswer placed_code told old code new
@@ -94,6 +112,20 @@ abbrev pub TellsArrived : {E : Type 0} → NpArrived → NpArrived → Result Ar
 TellsArrived old new (Ok arrived) = (new.placed ≡ arrived.placed)
     × (new.exhausted ≡ arrived.exhausted) × (new.nodes ≡ arrived.on)
 TellsArrived old new (Err cause) = new ≡ old
+
+-- the node of a page that was touched is told; where it is refused, what stood there stays
+abbrev pub TellsTouched : ℕ → ℕ → Result ℕ HugeRefusal → Type 0
+TellsTouched old new (Ok node) = new ≡ node
+TellsTouched old new (Err why) = new ≡ old
+
+-- a call that touches one page first
+abbrev pub PagesFault : ℕ → ℕ → ℕ → PagesHandle → ℕ → PagesHandle → ℕ → ℕ → Type 0
+PagesFault task address cpu old code new node node-then = PagesTell (done_code huge_code)
+    (TellsTouched node node-then) (node-then ≡ node) (Faults task address cpu) old code new
+
+-- a call that always can
+abbrev pub always : Unit {0} → ℕ
+always done = 0
 
 -- a call that touches the pages of a span first
 abbrev pub PagesTouch : ℕ → ℕ → ℕ → ℕ → PagesHandle → ℕ → PagesHandle → NpArrived → NpArrived
@@ -143,6 +175,13 @@ PagesBindRead said bytes told old code new bound bound-then =
 abbrev pub TellsNode : Option ℕ → ℕ → ℕ → ℕ → Type 0
 TellsNode None code old new = (code ≡ 105) × (new ≡ old)
 TellsNode (Some node) code old new = (code ≡ 0) × (new ≡ node)
+
+-- what the pools have is told, by node
+pub record HasPools (told : NpHugePools) (pools : PoolCounts) : Type 0 where
+  pub total : told.total ≡ pools.total
+  pub free : told.free ≡ pools.free
+  pub surplus : told.surplus ≡ pools.surplus
+  pub reserved : told.reserved ≡ pools.reserved
 
 -- the room of a node is told, if it has memory
 abbrev pub TellsRoom : Result ℕ PlacedRefusal → ℕ → ℕ → ℕ → Type 0

@@ -109,6 +109,16 @@ pub(crate) enum Code {
     NoSuchCpu = 108,
     /// A page of a span that a task should touch isn't mapped.
     SpanUnmapped = 109,
+    /// The machine lacks the node whose pool is meant, or it has no memory.
+    NoSuchPool = 110,
+    /// Linux takes all the node's memory where its pool is resized so.
+    Unsure = 111,
+    /// Too few pages of 2 MiB are free for a mapping, or too few on its nodes.
+    NoHugePages = 112,
+    /// No node has room for a page that is touched.
+    NodesFull = 113,
+    /// No node gives a page of 2 MiB that is touched.
+    NoPageFree = 114,
 }
 
 /// The code of a cause: of some kinds the one with the cause's own name, of the others what an arm

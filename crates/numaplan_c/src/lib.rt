@@ -29,6 +29,7 @@ mod placed;
 mod placed_codes;
 mod placed_commands;
 mod placed_moves;
+mod placed_pools;
 mod placed_questions;
 mod plans;
 mod policies;

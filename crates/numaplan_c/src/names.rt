@@ -9,7 +9,9 @@ ghost use Rattle.numaplan_c.specs.Texts.{IsWritten};
 
 use crate::codes::Code;
 use crate::texts::write;
-use numa_requests::{Errno, HostErrno, HostRefusal, MoveRefusal, PlacedRefusal, Refusal};
+use numa_requests::{
+    Errno, HostErrno, HostRefusal, HugeRefusal, MoveRefusal, PlacedRefusal, Refusal,
+};
 use numa_script::names::Named;
 
 /// The command's refusal with this code.
@@ -88,7 +90,7 @@ static FAULT_NAMES: [(u32, &[u8]); 23] = [
 ];
 
 /// The names of the codes of causes that only a host or pages have.
-static LATE_NAMES: [(u32, &[u8]); 19] = [
+static LATE_NAMES: [(u32, &[u8]); 24] = [
     (90, b"GroupExists"),
     (91, b"NoSuchGroup"),
     (92, b"TooManyGroups"),
@@ -108,6 +110,11 @@ static LATE_NAMES: [(u32, &[u8]); 19] = [
     (107, b"Occupied"),
     (108, b"NoSuchCpu"),
     (109, b"SpanUnmapped"),
+    (110, b"NoSuchPool"),
+    (111, b"Unsure"),
+    (112, b"NoHugePages"),
+    (113, b"NodesFull"),
+    (114, b"NoPageFree"),
 ];
 
 /// The text of a code in a table, empty if it has none.
@@ -239,6 +246,11 @@ fn placed_errno(code: u32) -> u32
         107 => PlacedRefusal::Occupied.errno(),
         108 => PlacedRefusal::BadCpu.errno(),
         109 => PlacedRefusal::Unmapped.errno(),
+        110 => HugeRefusal::NoSuchNode.errno(),
+        111 => HugeRefusal::Unsure.errno(),
+        112 => HugeRefusal::NoHugePages.errno(),
+        113 => HugeRefusal::Exhausted.errno(),
+        114 => HugeRefusal::Killed.errno(),
         _ => 0,
     }
 }

@@ -1,11 +1,12 @@
 //! The result codes of pages that are there.
 ghost use Rattle.std.specs.Prelude.{◌≡◌};
-ghost use Rattle.numaplan_c.specs.Placed.{change_code, done_code, move_code, placed_code};
+ghost use Rattle.numaplan_c.specs.Placed.{change_code, done_code, huge_code, move_code};
+ghost use Rattle.numaplan_c.specs.Placed.{placed_code};
 
 use crate::codes::{Code, code_by_name, refusal_code};
 use crate::keeping::or_return;
 use numa_pages::ChangeRefusal;
-use numa_requests::{MoveRefusal, PlacedRefusal, Refusal};
+use numa_requests::{HugeRefusal, MoveRefusal, PlacedRefusal, Refusal};
 
 /// The code of what stands against a change of pages.
 pub(crate) fn placed_code(cause: PlacedRefusal) -> u32
@@ -48,13 +49,35 @@ pub(crate) fn moved_code(answer: Result<(), MoveRefusal>) -> u32
     0
 }
 
+/// The code of what stands against a change of pages of 2 MiB or their pools.
+pub(crate) fn huge_code(cause: HugeRefusal) -> u32
+    ensures { result ≡ huge_code cause }
+{
+    code_by_name!(cause, HugeRefusal { Unsure, NoHugePages, TooManyRuns, NoMemory },
+        HugeRefusal::NoSuchNode => Code::NoSuchPool as u32,
+        HugeRefusal::BadCpu => Code::NoSuchCpu as u32,
+        HugeRefusal::Unmapped => Code::PageUnmapped as u32,
+        HugeRefusal::Exhausted => Code::NodesFull as u32,
+        HugeRefusal::Killed => Code::NoPageFree as u32,
+        HugeRefusal::NotSupported => refusal_code(Refusal::NotSupported))
+}
+
+/// The code of the result of a change of pages of 2 MiB or their pools.
+pub(crate) fn held_code<A: Drop>(answer: Result<A, HugeRefusal>) -> u32
+    ensures { result ≡ done_code huge_code answer }
+{
+    let _ = or_return!(answer, huge_code);
+    0
+}
+
 /// The code of what stands against a change of a core and its pages.
 pub(crate) fn change_code(cause: ChangeRefusal) -> u32
     ensures { result ≡ change_code cause }
 {
     code_by_name!(cause, ChangeRefusal { NoMemory },
         ChangeRefusal::OfSpace(refusal) => refusal_code(refusal),
-        ChangeRefusal::OfPages(cause) => placed_code(cause))
+        ChangeRefusal::OfPages(cause) => placed_code(cause),
+        ChangeRefusal::OfHuge(cause) => huge_code(cause))
 }
 
 /// The code of the result of a change of a core and its pages.

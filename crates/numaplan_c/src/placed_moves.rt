@@ -113,9 +113,9 @@ pub extern "C" fn np_pages_place(
     length: u64,
     node: u32,
 ) -> u32
-    ensures { PagesSet (Places start length node) pages.old result pages.new }
+    ensures { PagesAnswer change_code (Places start length node) pages.old result pages.new }
 {
-    if_open!(pages.place(alloc, start, length, node), answer => set_code(answer))
+    if_open!(pages.place(alloc, start, length, node), answer => changed_code(answer))
 }
 
 /// Touches each page of a span for the first time, as a task does that writes to it.

@@ -2,14 +2,14 @@
 ghost use Rattle.std.specs.Prelude.{◌≡◌, IfOk, List, Result, ℕ};
 ghost use Rattle.numa_machine.specs.declared.no_memory.NoMemory.{NoMemory};
 ghost use Rattle.numa_pages.specs.declared.listing.PageRun.{PageRun};
-ghost use Rattle.numa_placed.specs.Spots.{node_of, spot_at};
+ghost use Rattle.numa_placed.specs.Spots.{node_of};
 ghost use Rattle.numa_requests.specs.declared.page_refusal.PlacedRefusal.{PlacedRefusal};
 ghost use Rattle.numa_space.specs.History.{page_of};
 ghost use Rattle.numaplan_c.specs.Border.{Asked, AskedInto};
 ghost use Rattle.numaplan_c.specs.Placed.{TellsNode, TellsRoom, TellsRuns};
 ghost use Rattle.numaplan_handles.specs.Handles.{pages_in};
 ghost use Rattle.numaplan_c.specs.Texts.{copy_code};
-ghost use Rattle.numaplan_handles.specs.Pages.{HasCounts, HasNodes, HasRoom, HasRuns};
+ghost use Rattle.numaplan_handles.specs.Pages.{HasCounts, HasNodes, HasRoom, HasRuns, spots_in};
 
 use crate::codes::Code;
 use crate::differences::write_items;
@@ -31,8 +31,7 @@ pub extern "C" fn np_pages_node(
     node: &mut u32,
 ) -> u32
     ensures { Asked (pages_in pages.old) (pages_in pages.new) result (node.new ≡ node.old)
-        (λ kept. TellsNode (node_of (spot_at kept.state.placed (page_of address))) result node.old
-        node.new) }
+        (λ kept. TellsNode (node_of (spots_in kept (page_of address))) result node.old node.new) }
 {
     if_open!(pages.node_at(alloc, address / PAGE_BYTES), Code::NotPlaced, found => {
         *node = u32::from(found);
@@ -56,7 +55,7 @@ pub extern "C" fn np_pages_nodes(
     if_open!(pages.nodes_of(alloc, numbers, nowhere, nodes), told => copy_code(told))
 }
 
-/// Counts, for each node, the pages that lie on it.
+/// Counts, for each node, the pages of 4 KiB that lie on it, of which one of 2 MiB is 512.
 #[unsafe(no_mangle)]
 pub extern "C" fn np_pages_counts(
     alloc: Global,

@@ -209,7 +209,7 @@ static FAULT_WORDS: [(u32, &[u8]); 23] = [
 ];
 
 /// The words of the codes of causes that only a host or pages have.
-static LATE_WORDS: [(u32, &[u8]); 19] = [
+static LATE_WORDS: [(u32, &[u8]); 24] = [
     (90, b"there is a group of this number; choose another"),
     (
         91,
@@ -279,6 +279,31 @@ static LATE_WORDS: [(u32, &[u8]); 19] = [
     (
         109,
         b"a page of the span isn't mapped; map it first, or touch each mapped part",
+    ),
+    (
+        110,
+        b"the machine lacks the node, or it has no memory, and so no pool; its nodes are \
+          numbered from 0",
+    ),
+    (
+        111,
+        b"the node or the others together have more surplus pages than pages, where Linux \
+          takes all the node's memory; let surplus pages end first",
+    ),
+    (
+        112,
+        b"too few pages of 2 MiB are free and not reserved, or too few on the nodes that may \
+          give them; ask the pools, and resize them",
+    ),
+    (
+        113,
+        b"no node of the page's list has room for it; move others away, or give a node room \
+          by set_room",
+    ),
+    (
+        114,
+        b"no node of the page's list gives a page of 2 MiB, and the task gets SIGBUS; resize \
+          the pools, or reserve the page when it is mapped",
     ),
 ];
 

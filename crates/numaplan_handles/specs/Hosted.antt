@@ -12,7 +12,7 @@ use Rattle.numa_host_script.specs.Paging.{pages_at}
 use Rattle.numa_host_script.specs.Standing.{Changes, Replies, RunsAs}
 use Rattle.numa_host_script.specs.declared.running.RunningHost.{RunningHost}
 use Rattle.numa_mode.specs.Policy.{Specification}
-use Rattle.numa_host_pages.specs.Summed.{sent_last, sum_of}
+use Rattle.numa_host_pages.specs.Summed.{sent_last, sum_in}
 use Rattle.numa_page_state.specs.Lying.{Lying, Sent}
 use Rattle.numa_page_state.specs.Outcomes.{rooms_of}
 use Rattle.numa_page_state.specs.Standing.{ArrivedAs}
@@ -154,4 +154,4 @@ TellsLast lying told = TellsSent (sent_last lying.last) told
 
 -- what the last move of the host did, all its processes together
 abbrev pub TellsSum : LastFlows → Hosting → Type 0
-TellsSum told at = TellsSent (sum_of at.lying.homes) told
+TellsSum told at = TellsSent (sum_in at.lying) told

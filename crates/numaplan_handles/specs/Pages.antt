@@ -1,18 +1,19 @@
 -- What a call does to a core with its pages that is kept, and what it answers.
 use Rattle.std.specs.Prelude.{◌≡◌, ◌≢◌, ◌<◌, ℕ, true, false, Option, Some, None, Result, Ok, Err, List}
-use Rattle.std.specs.Prelude.{OnOk, OnErr, IfOk, IfSome, MatchOption, is_some, slice_index, EachIndex}
+use Rattle.std.specs.Prelude.{OnOk, OnErr, IfSome, MatchOption, is_some, slice_index, EachIndex}
 use Rattle.std.specs.Prelude.{length, unwrap_or}
 use Rattle.numa_core.specs.Standing.{CoreState}
 use Rattle.numa_machine.specs.declared.no_memory.NoMemory.{NoMemory}
-use Rattle.numa_pages.specs.Changes.{PagesState, Populates}
+use Rattle.numa_huge.specs.Huge.{no_huge}
+use Rattle.numa_pages.specs.Changes.{PagesState, huge_in}
 use Rattle.numa_pages.specs.Listing.{AreListed}
+use Rattle.numa_pages.specs.Sizes.{both_on, both_spots}
 use Rattle.numa_pages.specs.declared.listing.PageRun.{PageRun}
 use Rattle.numa_placed.specs.Refusals.{lacks_node}
 use Rattle.numa_page_state.specs.Lying.{Lying, nothing}
 use Rattle.numa_page_state.specs.Outcomes.{rooms_of}
-use Rattle.numa_page_state.specs.Standing.{ArrivedAs, LiesAs}
-use Rattle.numa_page_state.specs.declared.arrived.Arrived.{Arrived}
-use Rattle.numa_placed.specs.Spots.{is_on, node_of, pages_where, spot_at}
+use Rattle.numa_page_state.specs.Standing.{LiesAs}
+use Rattle.numa_placed.specs.Spots.{node_of, spot_at}
 use Rattle.numa_placed.specs.declared.spot.Spot.{Spot}
 use Rattle.numa_requests.specs.declared.page_refusal.PlacedRefusal.{PlacedRefusal}
 use Rattle.numa_requests.specs.declared.page_refusal.PlacedRefusal.TheVariants.{NoSuchNode}
@@ -29,9 +30,10 @@ TellsOf told kept = (pages : PagesState) → kept ≡ Some pages → told pages
 
 -- ---- opening
 
--- nothing is stated of any page, and no node ever fills
+-- nothing is stated of any page, no node ever fills, and the pools have no page
 abbrev pub IsUntouched : PagesState → Type 0
 IsUntouched pages = LiesAs pages.state nothing
+    × (huge_in pages ≡ no_huge pages.core.space.machine.memory)
 
 -- these are the core that is kept, and pages of which nothing is stated
 abbrev pub IsOpenedFrom : Option CoreState → PagesState → Type 0
@@ -50,32 +52,22 @@ IsMade made from answer new = (from ≡ None → answer ≡ None)
     × OnOk it (is_some new ≡ true) × OnErr it (new ≡ None))
     × IfSome new (made from)
 
--- ---- first touches
-
--- the same without what it tells
-abbrev pub untold : {E : Type 0} → Result Arrived E → Result (Unit {0}) E
-untold (Ok arrived) = Ok tt
-untold (Err why) = Err why
-
--- a task touched the pages of a span first, and what that did is told; or it is told why not
-pub record Touches (start bytes task cpu : ℕ) (before : PagesState)
-    (answer : Result Arrived PlacedRefusal) (after : PagesState) : Type 0 where
-  pub does : Populates start bytes task cpu before (untold answer) after
-  pub told : IfOk answer (λ arrived. (lying : Lying) → LiesAs after.state lying
-      → ArrivedAs arrived lying.arrived)
-
 -- ---- questions
+
+-- where each page of 4 KiB lies, or the one of 2 MiB of which it is a part
+abbrev pub spots_in : PagesState → ℕ → Spot
+spots_in pages = both_spots (huge_in pages) (spot_at pages.state.placed)
 
 -- this is the node on which a page lies, if it lies on one
 abbrev pub HasNode : ℕ → Option ℕ → PagesState → Type 0
-HasNode page found pages = found ≡ node_of (spot_at pages.state.placed page)
+HasNode page found pages = found ≡ node_of (spots_in pages page)
 
 -- this is the node on which a page lies, or the mark where it lies nowhere
 abbrev pub IsNodeOr : ℕ → (ℕ → Spot) → ℕ → ℕ → Type 0
 IsNodeOr mark spots page node = node ≡ unwrap_or (node_of (spots page)) mark
 
 abbrev pub HasNodeOr : ℕ → ℕ → ℕ → PagesState → Type 0
-HasNodeOr mark page node pages = IsNodeOr mark (spot_at pages.state.placed) page node
+HasNodeOr mark page node pages = IsNodeOr mark (spots_in pages) page node
 
 -- of pages in whatever order: at each one's place the node on which it lies, or the mark; there are
 -- as many places as pages, or nothing is told
@@ -85,14 +77,14 @@ HasNodes numbers mark (Ok count) old new pages = (count ≡ length numbers) × (
 HasNodes numbers mark (Err count) old new pages = (count ≡ length numbers) × (length old ≢ count)
     × (new ≡ old)
 
--- so many pages lie on each node
+-- so many pages of 4 KiB lie on each node, of which one of 2 MiB is 512
 abbrev pub HasCounts : List ℕ → PagesState → Type 0
 HasCounts counts pages = (node : ℕ) → node < 256
-    → slice_index counts node ≡ pages_where (is_on node) (spot_at pages.state.placed)
+    → slice_index counts node ≡ both_on (huge_in pages) (spot_at pages.state.placed) node
 
 -- these are the maximal runs of pages that lie on a node, in ascending order
 abbrev pub HasRuns : List PageRun → PagesState → Type 0
-HasRuns list pages = AreListed (spot_at pages.state.placed) 0 list
+HasRuns list pages = AreListed (spots_in pages) 0 list
 
 -- a node takes so many more pages; or it has no memory
 abbrev pub HasRoom : ℕ → Result ℕ PlacedRefusal → PagesState → Type 0

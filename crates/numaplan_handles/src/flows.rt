@@ -3,7 +3,7 @@ ghost use Rattle.std.specs.Prelude.{◌≡◌, ◌==◌, ◌++◌, ◌<◌, ℕ,
 ghost use Rattle.std.specs.Prelude.{slice_index};
 ghost use Rattle.numa_host_pages.specs.Homes.{HostLying};
 ghost use Rattle.numa_host_pages.specs.Standing.{HostLies};
-ghost use Rattle.numa_host_pages.specs.Summed.{flow_told, sent_last, sum_of};
+ghost use Rattle.numa_host_pages.specs.Summed.{flow_told, sent_last, sum_in};
 ghost use Rattle.numa_page_state.specs.Lying.{LastMove, Told};
 ghost use Rattle.numa_page_state.specs.Sending.{flow_between};
 ghost use Rattle.numa_page_state.specs.Standing.{LastAs, TellsOf};
@@ -111,7 +111,7 @@ fn add_departed(flows: &mut Vec<Flow>, gone: &Departures) -> Result<(), NoMemory
 /// Adds what went where in the last move of a host.
 fn add_sums(flows: &mut Vec<Flow>, pages: &HostPages) -> Result<(), NoMemory>
     ensures { (at : HostLying) → HostLies pages.now at → IfOk result
-        (λ done. flows.new.items ≡ flows.old.items ++ all_flows (sum_of at.homes).flow) }
+        (λ done. flows.new.items ≡ flows.old.items ++ all_flows (sum_in at).flow) }
 {
     for from in 0..256usize {
         let Ok(()) = add_from(flows, from as u8, &pages.flow_from(from as u8)) else {
@@ -167,7 +167,7 @@ pub(crate) fn flows_of(alloc: Global, last: &Last) -> Result<LastFlows, NoMemory
 /// `NoMemory`: out of memory.
 pub(crate) fn sums_of(alloc: Global, pages: &HostPages) -> Result<LastFlows, NoMemory>
     ensures { (at : HostLying) → HostLies pages.now at
-        → IfOk result (TellsSent (sum_of at.homes)) }
+        → IfOk result (TellsSent (sum_in at)) }
 {
     let mut flows = Vec::new(alloc);
     let all = pages.last();

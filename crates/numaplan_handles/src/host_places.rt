@@ -125,7 +125,7 @@ fn runs_in(
     let Some(placed) = placed_in(running, process) else {
         return Some(Ok(Vec::new(alloc)));
     };
-    match list_runs(alloc, placed) {
+    match list_runs(alloc, placed, None) {
         Ok(list) => Some(Ok(list)),
         Err(_) => Some(Err(NoMemory)),
     }

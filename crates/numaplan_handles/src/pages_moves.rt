@@ -1,34 +1,19 @@
 //! Stating where pages lie, touching them first, and moving them, through a handle.
 ghost use Rattle.numa_pages.specs.Changes.{BindsMoving, Limits, Migrates, MovesMems, MovesPage};
-ghost use Rattle.numa_pages.specs.Changes.{Places};
+ghost use Rattle.numa_pages.specs.Changes.{Places, Touches};
 ghost use Rattle.numaplan_handles.specs.Calls.{Calls};
 ghost use Rattle.numaplan_handles.specs.Handles.{pages_in};
-ghost use Rattle.numaplan_handles.specs.Pages.{OfPages, Touches};
+ghost use Rattle.numaplan_handles.specs.Pages.{OfPages};
 
 use crate::handle::of_kept;
 use crate::kept::Kept;
 use crate::pages_handle::PagesHandle;
 use numa_mask::NodeMask;
 use numa_page_state::{Arrived, Rebinding, Toucher};
-use numa_pages::{ChangeRefusal, Pages, Rebound};
+use numa_pages::{ChangeRefusal, Rebound};
 use numa_placed::Moved;
 use numa_requests::{MoveRefusal, PlacedRefusal};
 use std::alloc::Global;
-
-/// Touches each page of a span for the first time, and returns what that did.
-fn touched(
-    pages: &mut Pages,
-    start: u64,
-    length: u64,
-    toucher: Toucher,
-) -> Result<Arrived, PlacedRefusal>
-    ensures { Touches start length toucher.task toucher.cpu pages.old result pages.new }
-{
-    match pages.populate(start, length, toucher.task, toucher.cpu) {
-        Ok(()) => Ok(*pages.arrived()),
-        Err(cause) => Err(cause),
-    }
-}
 
 impl PagesHandle {
     /// States that the mapped pages of a span lie on a node. `None` if the handle is closed.
@@ -41,7 +26,7 @@ impl PagesHandle {
         start: u64,
         length: u64,
         node: u32,
-    ) -> Option<Result<(), PlacedRefusal>>
+    ) -> Option<Result<(), ChangeRefusal>>
         ensures { Calls (OfPages (Places start length node)) (pages_in self.old) result
             (pages_in self.new) }
     {
@@ -50,7 +35,7 @@ impl PagesHandle {
 
     /// Touches each page of a span for the first time, as a task on a CPU of node `cpu` does that
     /// writes to it, and returns how many pages went to a node, to which, and how many found no
-    /// room. `None` if the handle is closed.
+    /// room, each counted once, whatever its size. `None` if the handle is closed.
     ///
     /// # Errors
     /// In the `Some`, as [`Pages::populate`](numa_pages::Pages::populate).
@@ -65,9 +50,8 @@ impl PagesHandle {
         ensures { Calls (OfPages (Touches start length task cpu)) (pages_in self.old) result
             (pages_in self.new) }
     {
-        let toucher = Toucher { task, cpu };
         of_kept!(self.handle, alloc, Kept::Pages(pages) => {
-            touched(pages, start, length, toucher)
+            pages.populate(start, length, task, cpu)
         })
     }
 

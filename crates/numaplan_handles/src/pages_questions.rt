@@ -1,42 +1,41 @@
 //! Questions to a handle of a core with its pages.
-ghost use Rattle.std.specs.Prelude.{◌≡◌, ℕ, EachIndex, IfOk, MatchOption, length};
+ghost use Rattle.std.specs.Prelude.{◌≡◌, ◌<◌, ℕ, EachIndex, IfOk, length, slice_index};
 ghost use Rattle.numaplan_handles.specs.Calls.{Asks};
 ghost use Rattle.numaplan_handles.specs.Handles.{pages_in};
-ghost use Rattle.numa_pages.specs.Listing.{AreListed};
-ghost use Rattle.numa_placed.specs.Spots.{spot_at};
-ghost use Rattle.numa_placed.specs.declared.spot.Spot.TheVariants.{Nowhere};
-ghost use Rattle.numaplan_handles.specs.Pages.{HasCounts, HasNode, HasNodes, HasRoom};
-ghost use Rattle.numaplan_handles.specs.Pages.{HasRuns, TellsOf};
+ghost use Rattle.numaplan_handles.specs.Pages.{HasCounts, HasNode, HasNodes, HasRoom, HasRuns};
+ghost use Rattle.numaplan_handles.specs.Pages.{IsNodeOr, TellsOf, spots_in};
 
 use crate::handle::of_kept;
-use crate::nodes_there::write_nodes;
 use crate::pages_handle::{PagesHandle, pages_kept};
 use numa_machine::{NoMemory, Rules};
 use numa_pages::{PageRun, Pages, list_runs};
-use numa_placed::Placed;
+use numa_pools::Pools;
 use numa_requests::PlacedRefusal;
 use std::alloc::Global;
 
 /// The runs of pages that lie on one node.
-fn runs_of(alloc: Global, placed: &Placed) -> Result<Vec<PageRun>, NoMemory>
-    ensures { IfOk result (λ list. AreListed (spot_at placed.now) 0 list.items) }
+fn runs_of(alloc: Global, pages: &Pages) -> Result<Vec<PageRun>, NoMemory>
+    ensures { IfOk result (λ list. HasRuns list.items pages.now) }
 {
-    match list_runs(alloc, placed) {
+    match list_runs(alloc, pages.placed(), Some(pages.huge())) {
         Ok(list) => Ok(list),
         Err(_) => Err(NoMemory),
     }
 }
 
-/// Where the pages lie.
-fn placed_there(pages: &Pages) -> Option<&Placed>
-    ensures { MatchOption result ((page : ℕ) → spot_at pages.now.state.placed page ≡ Nowhere)
-        (λ it. (page : ℕ) → spot_at it.now page ≡ spot_at pages.now.state.placed page) }
+/// Writes the node on which each of these pages lies, or the mark for one that lies nowhere.
+fn write_each(pages: &Pages, numbers: &[u64], nowhere: u8, nodes: &mut [u8])
+    requires { length numbers.now ≡ length nodes.old }
+    ensures long { length nodes.new ≡ length nodes.old }
+    ensures nodes { (k : ℕ) → k < length numbers.now → IsNodeOr nowhere (spots_in pages.now)
+        (slice_index numbers.now k) (slice_index nodes.new k) }
 {
-    Some(pages.placed())
+    for place in 0..numbers.len() {
+        nodes[place] = pages.node_at(numbers[place]).unwrap_or(nowhere);
+    }
 }
 
-/// Writes the node on which each of these pages lies, or the mark for one that lies nowhere, if
-/// there are as many places as pages; returns how many they are.
+/// The same, if there are as many places as pages; returns how many they are.
 fn tell_nodes(pages: &Pages, numbers: &[u64], nowhere: u8, nodes: &mut [u8]) -> Result<usize, usize>
     ensures { HasNodes numbers.now nowhere result nodes.old nodes.new pages.now }
 {
@@ -44,7 +43,7 @@ fn tell_nodes(pages: &Pages, numbers: &[u64], nowhere: u8, nodes: &mut [u8]) -> 
     if nodes.len() != count {
         return Err(count);
     }
-    write_nodes(placed_there(pages), numbers, nowhere, nodes);
+    write_each(pages, numbers, nowhere, nodes);
     Ok(count)
 }
 
@@ -70,7 +69,7 @@ impl PagesHandle {
         ensures { Asks (λ found. TellsOf (HasNode page found) (pages_in self.old))
             (pages_in self.old) result (pages_in self.new) }
     {
-        of_kept!(self.handle, alloc, kept => pages_kept(&kept).placed().at(page).node())
+        of_kept!(self.handle, alloc, kept => pages_kept(&kept).node_at(page))
     }
 
     /// Writes the node on which each of these pages lies, and the mark `nowhere` for those that lie
@@ -93,12 +92,13 @@ impl PagesHandle {
         of_kept!(self.handle, alloc, kept => tell_nodes(pages_kept(&kept), numbers, nowhere, nodes))
     }
 
-    /// The number of pages that lie on each node. `None` if the handle is closed.
+    /// The number of pages of 4 KiB that lie on each node, of which one of 2 MiB is 512. `None` if
+    /// the handle is closed.
     pub fn counts(&mut self, alloc: Global) -> Option<[u64; 256]>
         ensures { Asks (λ counts. TellsOf (HasCounts counts) (pages_in self.old))
             (pages_in self.old) result (pages_in self.new) }
     {
-        of_kept!(self.handle, alloc, kept => pages_kept(&kept).placed().counts())
+        of_kept!(self.handle, alloc, kept => pages_kept(&kept).counts())
     }
 
     /// The maximal runs of pages that lie on one node, in ascending order. `None` if the handle is
@@ -110,11 +110,19 @@ impl PagesHandle {
         ensures { Asks (λ answer. IfOk answer (λ list. TellsOf (HasRuns list.items)
             (pages_in self.old))) (pages_in self.old) result (pages_in self.new) }
     {
-        of_kept!(self.handle, alloc, kept => runs_of(alloc, pages_kept(&kept).placed()))
+        of_kept!(self.handle, alloc, kept => runs_of(alloc, pages_kept(&kept)))
     }
 
-    /// How many more pages a node takes, 2^64 - 1 if it never fills. `None` if the handle is
-    /// closed.
+    /// The pools of pages of 2 MiB. `None` if the handle is closed.
+    pub fn pools(&mut self, alloc: Global) -> Option<Pools>
+        ensures { Asks (λ pools. TellsOf (λ pages. pools ≡ pages.huge.pools) (pages_in self.old))
+            (pages_in self.old) result (pages_in self.new) }
+    {
+        of_kept!(self.handle, alloc, kept => *pages_kept(&kept).pools())
+    }
+
+    /// How many more pages of 4 KiB a node takes, 2^64 - 1 if it never fills. `None` if the handle
+    /// is closed.
     ///
     /// # Errors
     /// In the `Some`, as [`Pages::room`](numa_pages::Pages::room).

@@ -170,6 +170,16 @@ causes! {
         "the machine lacks the node of the task's CPU; its nodes are numbered from 0";
     109 SPAN_UNMAPPED "SpanUnmapped"
         "a page of the span isn't mapped; map it first, or touch each mapped part";
+    110 NO_SUCH_POOL "NoSuchPool"
+        "the machine lacks the node, or it has no memory, and so no pool; its nodes are numbered from 0";
+    111 UNSURE "Unsure"
+        "the node or the others together have more surplus pages than pages, where Linux takes all the node's memory; let surplus pages end first";
+    112 NO_HUGE_PAGES "NoHugePages"
+        "too few pages of 2 MiB are free and not reserved, or too few on the nodes that may give them; ask the pools, and resize them";
+    113 NODES_FULL "NodesFull"
+        "no node of the page's list has room for it; move others away, or give a node room by set_room";
+    114 NO_PAGE_FREE "NoPageFree"
+        "no node of the page's list gives a page of 2 MiB, and the task gets SIGBUS; resize the pools, or reserve the page when it is mapped";
 }
 
 impl Refused {

@@ -17,7 +17,8 @@ pub struct Flow {
 }
 
 /// What a move did: how many pages went to another node, how many had a node to go to and stayed, since a
-/// node was full, and how many went from which node to which, the lowest first.
+/// node was full, and how many went from which node to which, the lowest first. Each page counts once,
+/// whatever its size.
 #[derive(Clone, Debug, PartialEq, Eq)]
 pub struct Moved {
     pub moved: u64,
@@ -35,7 +36,7 @@ impl Moved {
 }
 
 /// What a task's first touches of the pages of a span did: how many went to a node, how many found no node
-/// with room, and how many went to each node.
+/// with room, and how many went to each node. Each page counts once, whatever its size.
 #[derive(Clone, Debug, PartialEq, Eq)]
 pub struct Arrived {
     pub placed: u64,
@@ -260,7 +261,8 @@ impl Pages {
     /// [`Refused::NODE_FULL`] where more come to the node than it takes.
     ///
     /// # Errors
-    /// `UNALIGNED`, `OUT_OF_SPACE`, `NO_SUCH_NODE`, `NODE_FULL`, `TOO_MANY_RUNS`, `NO_MEMORY`.
+    /// `NOT_SUPPORTED` where one has 2 MiB; `UNALIGNED`, `OUT_OF_SPACE`, `NO_SUCH_NODE`, `NODE_FULL`,
+    /// `TOO_MANY_RUNS`, `NO_MEMORY`.
     pub fn place(&mut self, start: u64, length: u64, node: u32) -> Result<(), Refused> {
         done(unsafe { raw::np_pages_place(&mut self.0, start, length, node) })
     }
@@ -286,9 +288,9 @@ impl Pages {
         Ok(Arrived { placed: told.placed, exhausted: told.exhausted, nodes: told.nodes })
     }
 
-    /// Says how many more pages a node takes from now on: each page that comes to it (by `place`, `populate`
-    /// or a move) takes one, and each that leaves it (by a later `place`, a move or `unmap`) gives one back.
-    /// `None`, as at first: it never fills.
+    /// Says how many more pages of 4 KiB a node takes from now on: each page that comes to it (by `place`,
+    /// `populate` or a move) takes one, and each that leaves it (by a later `place`, a move or `unmap`) gives
+    /// one back. `None`, as at first: it never fills.
     ///
     /// # Errors
     /// `NO_SUCH_NODE`, also for a node without memory.
@@ -331,7 +333,7 @@ impl Pages {
         })
     }
 
-    /// How many pages lie on each node.
+    /// How many pages of 4 KiB lie on each node, of which one of 2 MiB is 512.
     #[must_use]
     pub fn counts(&mut self) -> [u64; 256] {
         let mut counts = Counts { pages: [0; 256] };
@@ -339,7 +341,8 @@ impl Pages {
         counts.pages
     }
 
-    /// The runs of pages that lie on one node, in order of address and as long as they can be.
+    /// The runs of pages of 4 KiB that lie on one node, in order of address and as long as they can be; one of
+    /// 2 MiB is 512 of them.
     ///
     /// # Errors
     /// `NO_MEMORY`.

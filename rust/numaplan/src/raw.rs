@@ -133,6 +133,14 @@ pub(crate) struct ToldArrived {
 }
 
 #[repr(C)]
+pub(crate) struct ToldPools {
+    pub total: [u64; 256],
+    pub free: [u64; 256],
+    pub surplus: [u64; 256],
+    pub reserved: u64,
+}
+
+#[repr(C)]
 #[derive(Default)]
 pub(crate) struct ToldBound {
     pub moved: u64,
@@ -372,6 +380,12 @@ extern "C" {
     pub(crate) fn np_pages_set_mems(pages: &mut Handle, nodes: *const u8, nodes_length: usize) -> u32;
     pub(crate) fn np_pages_place(pages: &mut Handle, start: u64, length: u64, node: u32) -> u32;
     pub(crate) fn np_pages_populate(pages: &mut Handle, start: u64, length: u64, task: u32, cpu: u32, arrived: &mut ToldArrived) -> u32;
+    pub(crate) fn np_pages_pools(pages: &mut Handle, pools: &mut ToldPools) -> u32;
+    pub(crate) fn np_pages_pool(pages: &mut Handle, count: u64) -> u32;
+    pub(crate) fn np_pages_pool_node(pages: &mut Handle, node: u32, count: u64) -> u32;
+    pub(crate) fn np_pages_pool_for(pages: &mut Handle, count: u64, task: u32, cpu: u32) -> u32;
+    pub(crate) fn np_pages_map_huge(pages: &mut Handle, start: u64, length: u64, offset: u64, task: u32, reserve: bool) -> u32;
+    pub(crate) fn np_pages_fault(pages: &mut Handle, task: u32, address: u64, cpu: u32, node: &mut u32) -> u32;
     pub(crate) fn np_pages_set_room(pages: &mut Handle, node: u32, room: u64) -> u32;
     pub(crate) fn np_pages_room(pages: &mut Handle, node: u32, room: &mut u64) -> u32;
     pub(crate) fn np_pages_node(pages: &mut Handle, address: u64, node: &mut u32) -> u32;

@@ -1,16 +1,16 @@
 use Rattle.std.proofs.Common.{ℕ, arith}
-use Rattle.numa_host_pages.specs.Summed.{sum_of}
+use Rattle.numa_host_pages.specs.Summed.{sum_in}
 use Rattle.numaplan_handles.specs.Hosted.{flows_from}
 use Rattle.numaplan_handles.proofs.Flowing.{added, begun, ended, from-alike}
 use Rattle.numaplan_handles.proofs.flows.add_sums.Goals as goal
 
 pub loop-from-init : goal.loop-from-init
 loop-from-init c = λ at lies.
-    begun (λ from. flows_from from ((sum_of at.homes).flow from)) c.args.flows.now.items
+    begun (λ from. flows_from from ((sum_in at).flow from)) c.args.flows.now.items
 
 pub loop-from-preserved : goal.loop-from-preserved
 loop-from-preserved c = λ at lies.
-    let flow : ℕ → ℕ → ℕ = (sum_of at.homes).flow in
+    let flow : ℕ → ℕ → ℕ = (sum_in at).flow in
     added (λ from. flows_from from (flow from)) c.loop-from.from c.args.flows.now.items
     c.loop-from.flows.items c.add_from.new.flows.items _ (c.loop-from.invariant at lies)
     c.in-Ok.ensures
@@ -19,6 +19,6 @@ loop-from-preserved c = λ at lies.
 
 pub returns : goal.returns
 returns c = λ at lies.
-    ended (λ from. flows_from from ((sum_of at.homes).flow from)) c.loop-from.from
+    ended (λ from. flows_from from ((sum_in at).flow from)) c.loop-from.from
     c.args.flows.now.items c.loop-from.flows.items (c.loop-from.invariant at lies)
     (omega (arith, c.loop-from.auto.from-end, c.loop-from-test.false))

@@ -1,6 +1,5 @@
-use Rattle.std.proofs.Common.{ℕ, subst}
-use Rattle.numa_pages.specs.Listing.{AreListed}
-use Rattle.numa_placed.specs.declared.spot.Spot.{Spot}
+use Rattle.std.proofs.Common.{sym}
+use Rattle.numa_host_script.specs.Paging.{pages_at}
 use Rattle.numaplan_handles.proofs.host_places.runs_in.Goals as goal
 
 pub returns-in_default : goal.returns-in_default
@@ -15,8 +14,8 @@ returns-in_default-placed_in c = λ at runs. (
 pub returns-in-Ok : goal.returns-in-Ok
 returns-in-Ok c = λ at runs. (
   (c.in-Some.ensures at.history runs.stands).0,
-  subst (λ (spots : ℕ → Spot). AreListed spots 0 c.in-Ok.list.items)
-      (λ i page. c.in-Some-placed_in.ensures at runs page i) c.in-Ok.ensures,
+  c.in-Ok.ensures (pages_at at c.args.process).spots
+      (λ page. sym (c.in-Some-placed_in.ensures at runs page)),
 )
 
 pub returns-in-Err : goal.returns-in-Err
