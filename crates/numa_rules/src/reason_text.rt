@@ -29,7 +29,7 @@ fn put_range(text: &mut Text, said: &Explanation) {
         .saturating_add(range.pages)
         .saturating_mul(PAGE_BYTES);
     let last = range.index.saturating_add(range.pages.saturating_sub(1));
-    let form = ": its pages have the indexes $ to $, and this one has index $";
+    let form = ": its pages have the indexes $ to $, this one $";
     text.put_hex("\nrange ", start);
     text.put_hex("-", end);
     let turns = [turn_at(range.index), turn_at(last), turn_at(said.index)];
