@@ -15,7 +15,7 @@ section { margin-top: 2em; border-top: 3px solid #333; }
 section h1 { font-size: 20px; }
 #said a { margin-right: 1.5em; }
 table { border-collapse: collapse; font-family: monospace; }
-td, th { padding: 2px 10px; text-align: left; border-bottom: 1px solid #ddd; }
+td, th { padding: 2px 6px; text-align: left; border-bottom: 1px solid #ddd; }
 td.number { text-align: right; }
 td.number, td.one, .whole { white-space: nowrap; }
 td.name { min-width: 9em; white-space: normal; overflow-wrap: anywhere; }
