@@ -118,21 +118,6 @@ fn difference_by<T: Write, P: Watch>(
     }
 }
 
-/// The same, where nothing is known yet of what is wrong with the lines.
-fn difference_from<T: Write, P: Watch>(
-    alloc: Global,
-    before: &StatesBefore,
-    findings: &mut Findings<T>,
-    process: Option<u32>,
-    asked: DiffAsked<'_>,
-    watch: &mut P,
-) -> Result<Vec<u8>, Halt> {
-    let mut faults = LineFaults::new(alloc);
-    let text = difference_by(alloc, before, findings, process, asked, &mut faults, watch);
-    drop(faults);
-    text
-}
-
 /// Which pages go elsewhere after the lines, which are played, as a text.
 pub(crate) fn difference<T: Write, P: Watch>(
     alloc: Global,
@@ -145,7 +130,9 @@ pub(crate) fn difference<T: Write, P: Watch>(
         Ok(before) => before,
         Err(halt) => return Err(halt),
     };
-    let text = difference_from(alloc, &before, findings, process, asked, watch);
+    let mut faults = LineFaults::new(alloc);
+    let text = difference_by(alloc, &before, findings, process, asked, &mut faults, watch);
+    drop(faults);
     drop(before);
     text
 }

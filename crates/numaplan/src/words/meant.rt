@@ -4,13 +4,15 @@ use crate::words::by_node::of_nodes;
 use numa_console::{Asking, Question};
 use numa_host_script::HostScript;
 use numa_lines::RunFault;
+use numa_moves::Origin;
 use numa_placed::Placed;
-use numa_play::subject_of;
+use numa_play::{Findings, subject_of};
 use numa_sheets::{Format, FreePages, Touch, Watch};
 use numa_subjects::{Added, Halt, differ};
 use numa_what_if::{DiffAsked, StatesBefore, difference_since, states_of};
-use numa_words::{prediction_there, stated_in};
+use numa_words::{Answer, LineFaults, Playing, moves_of, play_added, prediction_there, stated_in};
 use std::alloc::Global;
+use std::io::Write;
 
 /// What is asked, the touches that are meant, and the process of a host, if not all are asked for.
 #[derive(Clone, Copy)]
@@ -50,6 +52,35 @@ pub fn add(texts: &mut Vec<Vec<u8>>, text: Vec<u8>) -> Result<(), Halt> {
     match texts.push(text) {
         Ok(()) => Ok(()),
         Err(_) => Err(Halt::Stopped(RunFault::Memory)),
+    }
+}
+
+/// Plays added lines; if it is asked, returns what becomes of pages that are there, which came to
+/// lie there so, in this format.
+pub fn play<T: Write>(
+    alloc: Global,
+    findings: &mut Findings<T>,
+    process: Option<u32>,
+    lines: &[String],
+    asked: Option<(Origin, Format)>,
+    faults: &mut LineFaults,
+) -> Result<Option<Answer>, Halt> {
+    let Some((origin, format)) = asked else {
+        return match play_added(findings, lines, faults) {
+            Ok(()) => Ok(None),
+            Err(why) => Err(Halt::Stopped(why)),
+        };
+    };
+    let playing = Playing {
+        lines,
+        plays_all: true,
+        process,
+        free: &[],
+        format,
+    };
+    match moves_of(alloc, findings, origin, playing, faults) {
+        Ok(moves) => Ok(Some(moves)),
+        Err(halt) => Err(halt),
     }
 }
 

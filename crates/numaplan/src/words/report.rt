@@ -1,6 +1,6 @@
 //! A page for a ticket: where pages would go and why, and what added lines change.
 use crate::words::meant::{
-    Meant, difference_in, differs_elsewhere, goes_elsewhere, prediction_in, states_in,
+    Meant, difference_in, differs_elsewhere, goes_elsewhere, play, prediction_in, states_in,
 };
 use crate::words::report_page::ReportPage;
 use crate::words::report_rules::{RangeOf, by_rules, largest_of, ranges_of};
@@ -15,7 +15,7 @@ use numa_questions::AskedPages;
 use numa_sheets::{Format, Touch, Watch};
 use numa_subjects::{Added, Halt, Subject};
 use numa_what_if::StatesBefore;
-use numa_words::{Answer, ExplainAsked, LineFaults, Playing, explanation, moves_of, play_added};
+use numa_words::{Answer, ExplainAsked, LineFaults, explanation};
 use std::alloc::Global;
 use std::io::Write;
 
@@ -69,13 +69,14 @@ fn put_reasons(
     Ok(())
 }
 
-/// What is asked of a script, whose ranges these are.
+/// What is asked of a script, whose ranges these are, and the lines that are added to it.
 #[derive(Clone, Copy)]
 struct Told<'a> {
     meant: Meant<'a>,
     touch: Touch,
     areas: &'a Areas,
     ranges: &'a [RangeOf],
+    lines: &'a [String],
 }
 
 /// Writes which range goes by which rule, and where its pages would go.
@@ -90,6 +91,7 @@ fn put_policies(
         touch,
         areas,
         ranges,
+        ..
     } = told;
     let text = prediction_in(alloc, script, meant.as_text(), &[], &mut ());
     let text = named(alloc, areas, meant.process, Format::Text, true, text?)?;
@@ -208,9 +210,9 @@ struct Moving {
 }
 
 /// What is told of pages that are there after a script.
-fn moving_of(script: &HostScript, told: Told<'_>, lines: &[String]) -> Moving {
+fn moving_of(script: &HostScript, told: Told<'_>) -> Moving {
     Moving {
-        effect: effect_of(lines),
+        effect: effect_of(told.lines),
         origin: origin_of(script, told.touch),
         format: moves_format(script, told.meant),
     }
@@ -220,28 +222,22 @@ fn moving_of(script: &HostScript, told: Told<'_>, lines: &[String]) -> Moving {
 fn play_lines<T: Write>(
     alloc: Global,
     findings: &mut Findings<T>,
-    meant: Meant<'_>,
-    lines: &[String],
+    told: Told<'_>,
     moving: Moving,
     faults: &mut LineFaults,
 ) -> Result<Option<Answer>, Halt> {
-    let Effect::Moves = moving.effect else {
-        return match play_added(findings, lines, faults) {
-            Ok(()) => Ok(None),
-            Err(why) => Err(Halt::Stopped(why)),
-        };
+    let asked = match moving.effect {
+        Effect::Moves => Some((moving.origin, moving.format)),
+        _ => None,
     };
-    let playing = Playing {
-        lines,
-        plays_all: true,
-        process: meant.process,
-        free: &[],
-        format: moving.format,
-    };
-    match moves_of(alloc, findings, moving.origin, playing, faults) {
-        Ok(moves) => Ok(Some(moves)),
-        Err(halt) => Err(halt),
-    }
+    play(
+        alloc,
+        findings,
+        told.meant.process,
+        told.lines,
+        asked,
+        faults,
+    )
 }
 
 /// Writes moves: a picture, or a text with the names of areas.
@@ -327,16 +323,15 @@ fn put_change<T: Write, P: Watch>(
     page: &mut ReportPage,
     findings: &mut Findings<T>,
     told: Told<'_>,
-    lines: &[String],
     before: Before<'_>,
     faults: &mut LineFaults,
     watch: &mut P,
 ) -> Result<bool, Halt> {
     let (meant, areas) = (told.meant, told.areas);
-    let moving = moving_of(findings.script(), told, lines);
-    let moves = play_lines(alloc, findings, meant, lines, moving, faults)?;
+    let moving = moving_of(findings.script(), told);
+    let moves = play_lines(alloc, findings, told, moving, faults)?;
     let added = Added {
-        lines,
+        lines: told.lines,
         faults: faults.of_lines(),
     };
     let is_other = put_difference(alloc, page, findings, meant, added, before, watch)?;
@@ -350,11 +345,10 @@ fn put_changes<T: Write, P: Watch>(
     page: &mut ReportPage,
     findings: &mut Findings<T>,
     told: Told<'_>,
-    lines: &[String],
     faults: &mut LineFaults,
     watch: &mut P,
 ) -> Result<bool, Halt> {
-    if lines.is_empty() {
+    if told.lines.is_empty() {
         return Ok(false);
     }
     let own = states_in(alloc, findings.script(), told.meant)?;
@@ -366,7 +360,7 @@ fn put_changes<T: Write, P: Watch>(
         own: &own,
         other: other.as_ref(),
     };
-    let put = put_change(alloc, page, findings, told, lines, before, faults, watch);
+    let put = put_change(alloc, page, findings, told, before, faults, watch);
     drop(own);
     drop(other);
     put
@@ -418,20 +412,19 @@ fn ended(
 /// Writes the parts in their order, and returns the page.
 fn written<T: Write, P: Watch>(
     alloc: Global,
+    findings: &mut Findings<T>,
     page: &mut ReportPage,
     reasons: &mut ReportPage,
-    findings: &mut Findings<T>,
     told: Told<'_>,
-    lines: &[String],
     faults: &mut LineFaults,
     watch: &mut P,
 ) -> Result<Answer, Halt> {
     let state_other = put_state(alloc, page, reasons, findings, told, watch)?;
-    let lines_other = put_changes(alloc, page, findings, told, lines, faults, watch)?;
+    let lines_other = put_changes(alloc, page, findings, told, faults, watch)?;
     page.take_parts(reasons)?;
     let subject = subject_of(findings.script(), told.meant.process)?;
     let added = Added {
-        lines,
+        lines: told.lines,
         faults: faults.of_lines(),
     };
     let text = ended(alloc, page, subject, told.touch, added)?;
@@ -444,7 +437,6 @@ fn page_of<T: Write, P: Watch>(
     alloc: Global,
     findings: &mut Findings<T>,
     told: Told<'_>,
-    lines: &[String],
     faults: &mut LineFaults,
     watch: &mut P,
 ) -> Result<Answer, Halt> {
@@ -452,11 +444,10 @@ fn page_of<T: Write, P: Watch>(
     let mut reasons = ReportPage::new(alloc);
     let answer = written(
         alloc,
+        findings,
         &mut page,
         &mut reasons,
-        findings,
         told,
-        lines,
         faults,
         watch,
     );
@@ -489,8 +480,9 @@ pub fn report<T: Write, P: Watch>(
         touch,
         areas,
         ranges: ranges.as_slice(),
+        lines,
     };
-    let page = page_of(alloc, findings, told, lines, faults, watch);
+    let page = page_of(alloc, findings, told, faults, watch);
     drop(ranges);
     page
 }

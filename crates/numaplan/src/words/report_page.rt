@@ -20,18 +20,18 @@ h2 { font-size: 16px; margin: 2em 0 0.5em; padding-top: 0.5em; border-top: 2px s
 nav a { margin-right: 1.5em; }
 .wide { overflow-x: auto; }
 .wide > svg { display: block; max-width: 100%; height: auto; margin-bottom: 1em; }
-pre { background: #f6f6f6; padding: 8px; overflow-x: auto; font-size: 12px; }
+pre { background: #f6f6f6; padding: 8px; font-size: 12px; white-space: pre-wrap; }
+pre { overflow-wrap: anywhere; }
 @media (max-width: 600px) {
   body { margin: 0.5em; }
   .wide > svg { min-width: 700px; }
-  pre { white-space: pre-wrap; font-size: 11px; }
+  pre { font-size: 11px; }
 }
 @media print {
   body { margin: 0; max-width: none; }
   nav { display: none; }
   h2 { break-after: avoid; }
-  pre { white-space: pre-wrap; }
-  .wide, pre { overflow: visible; }
+  .wide { overflow: visible; }
   .wide > svg { min-width: 0; max-height: 88vh; break-inside: avoid; print-color-adjust: exact; }
   .tall > svg { max-height: none; }
 }

@@ -1,7 +1,7 @@
 //! The answers to questions about the state that scripts lead to, as texts.
 use crate::words::by_node::joined;
 use crate::words::meant::{
-    Meant, add, difference_in, differs_elsewhere, goes_elsewhere, prediction_in, states_in,
+    Meant, add, difference_in, differs_elsewhere, goes_elsewhere, play, prediction_in, states_in,
 };
 use crate::words::report::report;
 use numa_beside::{Areas, barred, named};
@@ -14,7 +14,7 @@ use numa_sheets::{AddressAsked, Format, FreePages, Touch, Watch};
 use numa_subjects::{Added, Halt, PagePlace};
 use numa_what_if::StatesBefore;
 use numa_words::{
-    Answer, ExplainAsked, LineFaults, Played, Playing, Reading, explanation, moves_of, play_added,
+    Answer, ExplainAsked, LineFaults, Played, Playing, Reading, explanation, moves_of,
 };
 use std::alloc::Global;
 use std::io::Write;
@@ -37,30 +37,19 @@ fn prediction<T: Write, P: Watch>(
 }
 
 /// Plays the added lines; with a file that states where pages lie, returns what becomes of these.
-fn play<T: Write>(
+fn play_lines<T: Write>(
     alloc: Global,
     findings: &mut Findings<T>,
     meant: Meant<'_>,
     lines: &[String],
     faults: &mut LineFaults,
 ) -> Result<Option<Answer>, Halt> {
-    if meant.asking.at.is_empty() {
-        return match play_added(findings, lines, faults) {
-            Ok(()) => Ok(None),
-            Err(why) => Err(Halt::Stopped(why)),
-        };
-    }
-    let playing = Playing {
-        lines,
-        plays_all: true,
-        process: meant.process,
-        free: &[],
-        format: meant.asking.format,
+    let asked = if meant.asking.at.is_empty() {
+        None
+    } else {
+        Some((Origin::Left, meant.asking.format))
     };
-    match moves_of(alloc, findings, Origin::Left, playing, faults) {
-        Ok(moves) => Ok(Some(moves)),
-        Err(halt) => Err(halt),
-    }
+    play(alloc, findings, meant.process, lines, asked, faults)
 }
 
 /// A difference, with what became of the pages that are there behind it, if that is told.
@@ -98,7 +87,7 @@ fn difference_by<T: Write, P: Watch>(
     faults: &mut LineFaults,
     watch: &mut P,
 ) -> Result<Answer, Halt> {
-    let moves = play(alloc, findings, meant, lines, faults)?;
+    let moves = play_lines(alloc, findings, meant, lines, faults)?;
     let script = findings.script();
     let added = Added {
         lines,
