@@ -84,7 +84,7 @@ pages, nodes = numbers(area), numbers(0, kind=ctypes.c_int)
 kernel_told, nowhere, true = text("/proc/self/status"), text("/nowhere"), text(shutil.which("true") or "/bin/true")
 words_of_true, no_words = numbers(true, 0), numbers(0)
 mine, nothing = os.open(os.path.realpath(__file__), os.O_RDONLY), os.open("/dev/null", os.O_WRONLY)
-spare = os.dup(mine)
+spare, in_memory = os.dup(mine), os.memfd_create("halves")
 vector = numbers(area, 8)
 shared = LIBC.shmget(0, PAGE, 0o1600)  # (IPC_CREAT)
 DUPLICATE, ADVICE, CREATE = 0, 4, 0o1000  # F_DUPFD, MADV_DONTNEED, IPC_CREAT
@@ -102,9 +102,10 @@ ROWS += [((name, *words), number) for name, *words in (
     ("madvise", area, PAGE, ADVICE), ("madvise", area, PAGE, 999), ("prctl", SET_AREA, 1, area, PAGE, 0),
     ("prctl", GET_HUGE, 0, 0, 0, 0), ("write", nothing, area, 8), ("writev", nothing, vector, 1),
     ("dup2", mine, spare), ("dup3", mine, spare, 0), ("dup3", mine, mine, 0), ("open", nowhere, 0, 0),
-    ("execveat", HERE, nowhere, words_of_true, no_words, 0))]
+    ("execveat", HERE, nowhere, words_of_true, no_words, 0), ("ftruncate", in_memory, 2 * PAGE),
+    ("fallocate", in_memory, 0, 0, PAGE), ("fstatfs", in_memory, room))]
 ROWS += [(words, opened) for words in (
-    ("open", kernel_told, 0, 0), ("openat", HERE, kernel_told, 0, 0), ("dup", mine), ("fcntl", mine, DUPLICATE, 0))]
+    ("memfd_create", nowhere, 0), ("open", kernel_told, 0, 0), ("openat", HERE, kernel_told, 0, 0), ("dup", mine), ("fcntl", mine, DUPLICATE, 0))]
 ROWS += [(words, segment) for words in (("shmget", 0, PAGE, CREATE | 0o600), ("shmget", 7, PAGE, 0))]
 ROWS += [(("shmat", shared, 0, 0), attached)]
 

@@ -11,7 +11,7 @@ for path in sorted(glob.glob(sys.argv[1] + "/*.numaplan")):
         text = file.read()
     lines = [line for line in text.splitlines() if not line.startswith("#")]
     answers = numaplan.Script.run(text).splitlines()
-    faulty = [pair for pair in zip(lines, answers) if not pair[1].startswith(("ready", "ok ", "rules ok", "cpus ok"))]
+    faulty = [pair for pair in zip(lines, answers) if not pair[1].startswith(("ready", "ok ", "rules ok", "cpus ok", "pool "))]
     if faulty or len(lines) != len(answers):
         print(f"{path}: {faulty}")
     names = [place for place, line in enumerate(text.splitlines()) if line == f"# name: file={sys.argv[2]}"]

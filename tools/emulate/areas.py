@@ -9,7 +9,6 @@ import re
 import struct
 from collections import namedtuple
 
-from . import huge
 from .tracing import PAGE, TOP
 
 # (compiled at their first use)
@@ -51,7 +50,9 @@ class ByReading:
     def between(self, start, end):
         """The areas that have an address from start to end, whole."""
         if self.found is None:
-            sizes = huge.page_sizes(self.task)
+            from .huge import page_sizes  # (which imports this one)
+
+            sizes = page_sizes(self.task)
             self.found = [area for area in (self.area_of_line(line, sizes) for line in self.lines()) if area]
         return [area for area in self.found if area.start < end and start < area.end]
 

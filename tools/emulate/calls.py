@@ -6,9 +6,9 @@ import struct
 import numaplan
 
 from . import objects
-from .common import move
 from .cpus import getcpu
 from .policies import read_mask, word_of, write_mask
+from .pools import move_page as move
 from .prototypes import answer_text, statuses_text
 from .tracing import PAGE, TOP, fail, peek, poke
 from .words import list_text
@@ -87,7 +87,7 @@ def move_astray(all_, task, pages, flags):
     shared = set() if flags & MOVE_ALL else space.shared_of(task.number, pages)
     for page in pages:
         if page not in shared:
-            move(space, page, space.lists().choice(task.number, page, cpu)[0])
+            move(space, page, space.lists().choice(task.number, page, cpu))
 
 
 def set_mempolicy(all_, task, mode, mask, most, *_):
@@ -213,7 +213,7 @@ class Batch:
 
 def move_page(all_, task, start, node, flags, batch):
     """The node of a page once it is moved, or an error number below 0. What isn't moved ends the batch."""
-    space, page = task.space, start // PAGE
+    space, page = task.space, task.space.made.unit(start // PAGE)
     is_twice = batch.has(page, node)
     if page not in space.placed:
         is_none = space.has(start) and not space.is_zeros(task.number, page)
@@ -227,7 +227,7 @@ def move_page(all_, task, start, node, flags, batch):
     elif not flags & MOVE_ALL and space.shared_of(task.number, [page]):
         told = -errno.EACCES
     else:
-        move(space, page, node)
+        move(space, page, [node])
         batch.pages.add(page)
         return node
     batch.pages.clear()
@@ -248,7 +248,7 @@ def migrate_pages(all_, task, number, most, old, new, *_):
     stays = set() if all_.may_move_all else other.space.shared_of(other.number, other.space.placed)
     for source, target in steps_of(sources, targets):
         for page in [page for page, node in other.space.placed.items() if node == source and page not in stays]:
-            move(other.space, page, target)
+            move(other.space, page, [target])
     return 0
 
 

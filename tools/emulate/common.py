@@ -5,6 +5,10 @@ from time import monotonic_ns
 
 from .objects import move_of_object
 from .touched import is_own, number_of
+from .tracing import PAGE
+
+
+ABSENT = -1  # the number where the kernel below had no page, but a page of a pool has one there
 
 
 class Frame:
@@ -27,7 +31,7 @@ def share(parent, child, pagemap):
     for page, entry in pagemap.entries(private):
         frame = parent.common.get(page)
         if frame is None:
-            frame = parent.common[page] = Frame(number_of(entry))
+            frame = parent.common[page] = Frame(number_of(entry) if entry >> 62 else ABSENT)
             frame.holders[parent, page] = True
         frame.holders[child, page] = True
         child.common[page] = frame
@@ -71,10 +75,12 @@ def written(space, first, after, pagemap):
     pages = [page for page in some if page in span] if len(some) < len(span) else [page for page in span if page in some]
     for page, entry in pagemap.entries(pages):
         frame, number = space.common[page], number_of(entry)
-        if not is_own(entry):
+        if space.made and space.made.areas.has(page * PAGE) and len(frame.holders) == 1:
+            del space.common[page]  # (the other one has a copy of all of the pool's page)
+        elif not is_own(entry):
             frame.number = number or frame.number  # (this machine may have moved it, to make room for huge pages)
-            continue
-        if number != frame.number if number and frame.number else is_new_by_writes(space, page, frame):
+        elif frame.number == ABSENT or (number != frame.number if number and frame.number else
+                                        is_new_by_writes(space, page, frame)):
             yield page
         elif len(frame.holders) == 1:
             del space.common[page]

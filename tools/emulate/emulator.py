@@ -69,7 +69,7 @@ class Emulator:
         self.may_move_all = os.geteuid() == 0  # (CAP_SYS_NICE)
         self.marks = marks.number_of_file() if outcome.is_asked() else None
         self.answered, self.followed = self.calls_answered(), self.calls_followed() | marks.FOLLOWED
-        self.has_pools = self.fakes and not huge.are_empty()
+        self.has_pools = self.fakes and not huge.are_empty()  # (this machine; those of --machine are the machine's)
         self.early, self.has_begun, self.stops = {}, False, Counter()
         self.told = ""  # what the call that is answered now tells, for the log
         self.unread = []  # (number, status) of tasks that were waited for elsewhere
@@ -95,7 +95,7 @@ class Emulator:
         return ANSWERED | OF_MADE_UP if self.machine.cpus.are_made_up else ANSWERED
 
     def calls_followed(self):
-        return FOLLOWED
+        return FOLLOWED | huge.CALLS_OF_POOLS if self.machine.pools is not None else FOLLOWED
 
     def watched(self):
         """The calls that stop a program, each with the word that makes it matter, or None."""
@@ -103,6 +103,8 @@ class Emulator:
         found = {name: ONLY_WITH.get(name) for name in names + ["open", "openat"] * self.fakes}
         if self.has_pools:
             found["mmap"] = None  # (a file may be one of huge pages)
+        if self.machine.pools is not None:
+            found |= huge.STOPS_OF_POOLS
         return found | dict.fromkeys(marks.FOLLOWED if self.marks else (), (0, False, self.marks))
 
     def tell(self, text):
@@ -164,7 +166,12 @@ class Emulator:
         return self.tasks.get(number) or fail(errno.ESRCH)
 
     def pages_on(self, node):
-        return pages_on({task.space for task in self.tasks.values()}, self.machine.objects, node)
+        """Of 4 KiB, but for those of pools."""
+        pools, objects = self.machine.pools, self.machine.objects
+        if pools is not None:
+            objects = {key: found for key, found in objects.items() if key not in pools.objects}
+        count, shared = pages_on({task.space for task in self.tasks.values()}, objects, node)
+        return count - (pools.private_on(self.machine, node) if pools is not None else 0), shared
 
     # ---- a stop before a call
 

@@ -2,10 +2,13 @@
 (userfaultfd(2)). What it doesn't tell is found as without. Not proved."""
 
 import ctypes
+import errno
 import os
+import re
 import resource
 import select
 import signal
+import struct
 
 import numaplan
 
@@ -15,16 +18,19 @@ from .common import leave
 from .emulator import GONE, Emulator
 from .ending import locks_of, number_of_child
 from .faults import IS_PROTECTED, IS_WRITE, Fault, Faults
+from .huge import CALLS_OF_POOLS
 from .injected import Ended, make_device, opened_in
 from .mappings import FAILED, FOLLOWED
+from .pools import SIZE, UNIT, area_of, is_shared
 from .spans import Spans
 from .touched import Pagemap, is_own, is_protected
 from .touchers import Toucher
-from .tracing import LIBC, PAGE, TOP
+from .tracing import CALLS, LIBC, PAGE, TOP, ptrace
 from .vdso import TO_SYSCALL
 from .words import tell
 
 PRIVATE = Area(0, 0, 0, False, False, None, "")
+SET_SIGNAL, NO_ADDRESS = 0x4203, 2  # PTRACE_SETSIGINFO, BUS_ADRERR
 FILLED_AT_ONCE = 0x8000 | 0x2000  # MAP_POPULATE, MAP_LOCKED
 
 # The calls that make areas: (start, end) within what is new, by the call's words and its result.
@@ -39,7 +45,7 @@ SPANS = {
 def then_watched(name):
     """Follows a call as without --exact, and then looks for faults of the new area."""
     def follow(all_, task, *words):
-        before = FOLLOWED[name](all_, task, *words) if name in FOLLOWED else None
+        before = (FOLLOWED | CALLS_OF_POOLS).get(name, passed)(all_, task, *words)
         if isinstance(before, int):
             return before
 
@@ -56,6 +62,10 @@ def then_watched(name):
     return follow
 
 
+def passed(*_):
+    """(Nothing is followed before the call.)"""
+
+
 def set_tid_address(_, task, start, *__):
     task.number_at = start
 
@@ -64,6 +74,9 @@ class Exact(Emulator):
     def __init__(self, machine, room, outcome, log):
         super().__init__(machine, room, outcome, log)
         self.watches, self.telling = True, None
+        self.lost = {}  # by thread the address for which it gets SIGBUS
+        if machine.pools is not None:
+            machine.pools.is_told = True
         self.by_file, self.poll = {}, select.epoll()
         self.signals = None  # a file that tells of them
         tracing.before_access.append(self.touch)
@@ -170,6 +183,10 @@ class Exact(Emulator):
             task = next((task for task in self.tasks.values() if task.space is space), None)
         if task is None:
             return
+        if space.made and space.made.areas.has(one.page * PAGE):
+            if not self.fault_of_pool(task, one):
+                self.send_bus(task, one.page * PAGE)
+            return
         if one.flags & IS_PROTECTED:
             self.before_write(task, one.page)
             space.faults.free(one.page)
@@ -183,6 +200,40 @@ class Exact(Emulator):
             self.place(task, one.page, node, shared or PRIVATE)
         else:
             space.faults.wake(one.page)
+
+    def fault_of_pool(self, task, one):
+        """A page of 2 MiB is placed as a whole as any part of it is touched first; whether a node gave one."""
+        space, page = task.space, task.space.made.unit(one.page)
+        writes, address, kind = one.flags & (IS_WRITE | IS_PROTECTED), page * PAGE, space.made.areas.at(page * PAGE)
+        if writes and page in space.common and is_shared(space, page):
+            space.forget(address, address + SIZE)
+        if page not in space.placed:
+            space.made.lost.remove(address, address + SIZE)
+            toucher = [Toucher(task.number, task.word, self.node_of(task))]
+            space.place(page, page + UNIT, area_of(address, kind), lambda *gap: [(*gap, toucher)])
+        if page not in space.placed:
+            return False
+        if one.flags & IS_PROTECTED:
+            space.faults.free(one.page)
+        elif not writes and kind.key is None:
+            space.faults.fill_for_reading(one.page)
+        elif not space.faults.fill(one.page):
+            space.faults.wake(one.page)
+        return True
+
+    def send_bus(self, task, address):
+        """No node has a page: what a kernel sends, which ends a task that doesn't look at it."""
+        with open(f"/proc/{task.number}/status", encoding="ascii", errors="replace") as file:
+            masks = re.findall(r"^Sig(?:Blk|Ign):\s*([0-9a-f]+)", file.read(), re.MULTILINE)
+        is_deaf = any(int(mask, 16) >> signal.SIGBUS - 1 & 1 for mask in masks)
+        self.lost[task.number] = address
+        LIBC.syscall(CALLS["tkill"], task.number, signal.SIGKILL if is_deaf else signal.SIGBUS)
+
+    def go_on(self, task, signal_=0):
+        if signal_ == signal.SIGBUS and task.number in self.lost:
+            told = struct.pack("3i4xQ104x", signal_, 0, NO_ADDRESS, self.lost.pop(task.number))
+            ptrace(SET_SIGNAL, task.number, 0, ctypes.cast(told, ctypes.c_void_p).value)
+        super().go_on(task, signal_)
 
     def before_write(self, task, page):
         """A task is about to write to a page that was read alone, or that several processes have."""
@@ -215,7 +266,14 @@ class Exact(Emulator):
             return
         for page in range(start // PAGE, (start + size - 1) // PAGE + 1):
             if page < TOP // PAGE:
-                self.fault(task.space, Fault(page, IS_WRITE if is_write else 0, number))
+                one = Fault(page, IS_WRITE if is_write else 0, number)
+                if task.space.made and task.space.made.areas.has(page * PAGE):
+                    if not self.fault_of_pool(task, one):
+                        tracing.fail(errno.EFAULT)
+                    if is_write:
+                        task.space.faults.free(page)
+                    continue
+                self.fault(task.space, one)
                 if is_write and task.space.faults.free(page):
                     self.before_write(task, page)
 

@@ -4,10 +4,11 @@ proved."""
 import numaplan
 
 from .cpus import read_cpus
+from .pools import Pools
 from .words import BY_KERNEL, KERNEL_ORDERS, RULES, Unfit, list_text
 
 KILOBYTES = 4 << 20  # that each node with memory shows
-TAKEN = ("limits", "rules", "cpus", "machine", "weight", "mems")
+TAKEN = ("limits", "rules", "cpus", "machine", "weight", "mems", "pool")
 
 
 def machine_lines(lines, path, rules):
@@ -22,7 +23,7 @@ def machine_lines(lines, path, rules):
             answer = script.line(line).strip()
             if answer.startswith(("bad", "refused")):
                 raise Unfit(f"{path}:{number}: {line}: {answer}")
-            taken.setdefault(word, []).append(line.split(" ")[1:])
+            taken.setdefault(word, []).append(answer if word == "pool" else line.split(" ")[1:])
     if "machine" not in taken:
         raise Unfit(f"{path}: no line begins with machine; tools/machine-line writes one")
     return taken
@@ -51,6 +52,7 @@ class Machine:
         # pages placed on each node, and among them those interleaved, and those touched on a CPU of the node
         self.hits = [[0, 0, 0] for _ in range(self.count)]
         self.objects = {}  # in memory that processes share
+        self.pools = Pools(lines["pool"][-1], self.count) if "pool" in lines else None  # where they are made up
         self.names_touchers = False  # whether it is kept who touched each page
         try:
             self.core()[0].close()
@@ -89,6 +91,8 @@ class Machine:
         rows = ";".join(",".join(map(str, row)) for row in self.distances)
         orders = KERNEL_ORDERS if self.has_kernel_orders else ""
         lines.append(f"machine {self.count} {list_text(self.memory)} 0 {orders}{rows}")
+        if self.pools is not None:
+            lines += [f"pool {node} {pages}" for node, pages in enumerate(self.pools.described) if pages]
         for node, weight in self.weights.items():
             core.set_weight(node, weight)
             lines.append(f"weight {node} {weight}")

@@ -51,12 +51,14 @@ def make_tree(machine, root):
              "has_memory": machine.memory, "has_normal_memory": machine.memory, "has_generic_initiator": set()}
     for name, nodes in lists.items():
         write(f"{root}/node/{name}", list_text(nodes))
-    has_pools = huge.make_pools(f"{root}/node/{POOLS}")
+    has_pools = machine.pools is None and huge.make_pools(f"{root}/node/{POOLS}")
     for node in every:
         make_node(machine, f"{root}/node/node{node}", node)
         if has_pools:
             os.symlink(f"../{POOLS}", f"{root}/node/node{node}/hugepages")
         write(f"{root}/weights/node{node}", str(machine.weights.get(node, 1)))
+    if machine.pools is not None:
+        huge.make_filled(root, machine.pools)
     write(f"{root}/weights/auto", "false")
     if cpus.are_made_up:
         make_cpus(cpus, f"{root}/cpu")
@@ -97,9 +99,12 @@ def memory_text(machine, node, placed, shared):
     there is none."""
     all_ = KILOBYTES if node in machine.memory else 0
     used, shared = (min(pages * PAGE // 1024, all_) for pages in (placed, shared))
-    rows = {"MemTotal": all_, "MemFree": all_ - used, "MemUsed": used, "Active": used, "Active(anon)": used,
-            "FilePages": shared, "AnonPages": used - shared, "Shmem": shared}
-    return "\n".join(f"Node {node} {name + ':':<15}{0:>9}" if name.startswith("HugePages_") else
+    pool = huge.numbers_of(machine.pools, node) if machine.pools is not None else {}
+    size = pool.get("nr_hugepages", 0) * huge.SIZE // 1024  # (which the node has beside)
+    rows = {"MemTotal": all_ + size, "MemFree": all_ - used, "MemUsed": used + size, "Active": used, "Active(anon)": used,
+            "FilePages": shared, "AnonPages": used - shared, "Shmem": shared,
+            "HugePages_Total": pool.get("nr_hugepages", 0), "HugePages_Free": pool.get("free_hugepages", 0)}
+    return "\n".join(f"Node {node} {name + ':':<15}{rows.get(name, 0):>9}" if name.startswith("HugePages_") else
                      f"Node {node} {name + ':':<15}{rows.get(name, 0):>9} kB" for name in ROWS_OF_MEMORY)
 
 
@@ -118,6 +123,8 @@ def status_text(all_, number):
     for name, members, least in rows:
         text = re.sub(name + r"_allowed:.*", f"{name}_allowed:\t{mask_text(members, least)}", text)
         text = re.sub(name + r"_allowed_list:.*", f"{name}_allowed_list:\t{list_text(members)}", text)
+    if all_.machine.pools is not None:
+        text = re.sub("HugetlbPages:.*", f"HugetlbPages:\t{huge.kilobytes_of(all_.tasks[number].space):>8} kB", text)
     return re.sub("THP_enabled:.*", f"THP_enabled:\t{huge.is_possible(all_.tasks[number].space)}", text)
 
 
@@ -235,10 +242,12 @@ def text_of(all_, task, path):
     if found and int(found[1]) < all_.machine.count:
         if all_.follows(task):
             all_.sweep(task)
+        if all_.machine.pools is not None:
+            huge.look(all_)
         node = int(found[1])
         return (memory_text(all_.machine, node, *all_.pages_on(node)) if found[2] == "meminfo"
                 else hits_text(all_.machine, node)) + "\n"
-    return huge.text_of(path)
+    return huge.text_of(path, all_)
 
 
 def from_root(task, folder, path):

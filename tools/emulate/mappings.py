@@ -3,16 +3,21 @@ what is to be done at the end of the call, or None; or a number that is answered
 
 import errno
 
-from . import huge
+from . import huge, pools
 from .areas import Areas, named
 from .calls import whole_pages
 from .policies import word_of
-from .tracing import MAP_FIXED, PAGE, SET_AREA, TOP, set_registers, text_at
+from .tracing import FORGET, MAP_FIXED, PAGE, SET_AREA, TOP, set_registers, text_at
 
 FAILED = 2**64 - 4096  # results from here on are error numbers
 
 
-def mmap(all_, task, start, length, _protection, flags, file, *_):
+def mmap(all_, task, start, length, protection, flags, file, offset):
+    found = None
+    if all_.machine.pools is not None:
+        found = huge.mapped(all_, task, start, length, protection, flags, file, offset)
+    if found is not None:
+        return found
     fault = huge.fault_of_map(task, flags, file, all_.has_pools) if all_.fakes else 0
     if fault:
         return -fault
@@ -23,7 +28,7 @@ def replace(all_, task, start, length):
     """What is mapped there goes, if the call is a success."""
     space, end = task.space, start + whole_pages(length)
     if space.parts_page(start, end):
-        return None
+        return -errno.EINVAL if space.made else None
     if start % PAGE or end > TOP or not space.spans.between(start, end) or not all_.follows(task):
         forget(all_, task, start, length)
         return None
@@ -31,12 +36,17 @@ def replace(all_, task, start, length):
     return lambda registers: registers.rax >= FAILED or space.unmap(start, end)
 
 
-def shmget(all_, _, key, __, flags):
+def shmget(all_, task, key, size, flags):
+    if all_.machine.pools is not None:
+        return huge.made_segment(all_, task, key, size, flags)
     return -huge.fault_of_segment(key, flags) or None if all_.fakes else None
 
 
 def munmap(all_, task, start, length, *_):
+    if task.space.made and task.space.parts_page(start, start + whole_pages(length)):
+        return -errno.EINVAL
     forget(all_, task, start, length)
+    return None
 
 
 def forget(all_, task, start, length):
@@ -59,16 +69,18 @@ def forget_touchers(all_, task, start, end):
         touchers.forget(start // PAGE, end // PAGE)
 
 
-def madvise(all_, task, start, length, *_):
+def madvise(all_, task, start, length, advice, *_):
     """MADV_DONTNEED: the pages go, and are placed anew when they are touched again."""
     end = start + whole_pages(length)
-    if start % PAGE or end > TOP:
-        return
+    found = huge.advised(all_, task, start, end, advice) if task.space.made else None
+    if found is not None or advice != FORGET or start % PAGE or end > TOP:
+        return found
     if not all_.follows(task):
         forget_touchers(all_, task, start, end)
-        return
+        return None
     all_.sweep(task, start, end)
     task.space.forget(start, end)
+    return None
 
 
 def brk(all_, task, end, *_):
@@ -102,8 +114,13 @@ def before_exec(all_, task, *_):
         all_.survey(task)
 
 
-def mremap(all_, task, old, old_length, new_length, *_):
+def mremap(all_, task, old, old_length, new_length, flags, new):
     space, old_length, new_length = task.space, whole_pages(old_length), whole_pages(new_length)
+    restore = huge.moved_parts(task, old, old_length, new_length, flags, new) if space.made else None
+    if isinstance(restore, int):
+        return restore
+    if restore:
+        old_length, new_length = (-(-length // huge.SIZE) * huge.SIZE for length in (old_length, new_length))
     if task.space.touchers.are_apart and all_.has_begun:
         all_.wake(task)
     if old % PAGE or old + old_length > TOP or not all_.follows(task):
@@ -113,6 +130,8 @@ def mremap(all_, task, old, old_length, new_length, *_):
     pieces = [(*piece, space.core.policy_at(piece[0])) for piece in space.ranges(old, old + old_length)]
 
     def follow(registers):
+        if restore:
+            restore(registers)
         if registers.rax < FAILED:
             moved(space, pieces, (old, old_length), (registers.rax, new_length))
 
@@ -124,9 +143,11 @@ def moved(space, pieces, old, new):
     the new span."""
     (from_, old_length), (to, new_length) = old, new
     kept = space.take(from_, from_ + min(old_length, new_length))
+    in_pools = pools.taken(space, from_, from_ + min(old_length, new_length))
     sizes = [space.huge.at(start) or 0 for start, *_ in pieces]
     space.unmap(from_, from_ + old_length)
     space.unmap(to, to + new_length)
+    pools.put(space, in_pools, to - from_)
     for place, (start, end, index, _, policy) in enumerate(pieces):
         if not kept[0] and index == start // PAGE and not sizes[place]:
             index += (to - from_) // PAGE  # (anonymous, and never touched: the index moves too)

@@ -63,8 +63,8 @@ def move_of_object(found, key, index, node):
 def parts_of(task, start, end):
     """(area, first index, index behind) of what lies from start to end and is of objects."""
     with Areas(task.number) as areas:
-        for area in areas.between(start, end):
-            if area.shared:
+        for area in task.space.made.parted(areas.between(start, end)):
+            if area.shared and not area.huge:
                 low, high, shift = max(start, area.start), min(end, area.end), shift_of(area)
                 yield area, low // PAGE + shift, high // PAGE + shift
 

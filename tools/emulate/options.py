@@ -18,8 +18,8 @@ elsewhere than --expect wants, or nothing was compared; 4 if that can't be known
 # Each option: what its value is called (None: it has none), whether numaplan-record has it, what it does.
 OPTIONS = {
     "machine": ("FILE", True,
-                "a script whose lines machine, cpus, rules, mems and weight describe it; what numactl --hardware or"
-                " lstopo --of xml prints; hwloc's synthetic text; or live, this machine (otherwise {machine})"),
+                "a script whose lines machine, cpus, rules, mems, weight and pool describe it; what numactl --hardware"
+                " or lstopo --of xml prints; hwloc's synthetic text; or live, this machine (otherwise {machine})"),
     "mems": ("LIST", False, "the allowed nodes, as 0-2"),
     "cpus": ("NUMBERS", False,
              "made-up CPUs in place of this machine's: as many on each node, as 4, or by node, as 4,4,0,0"),

@@ -20,6 +20,7 @@ WORDS = {
     "mremap": "address length length long address", "madvise": "address length int", "shmget": "int long int",
     "shmat": "int address int", "shmdt": "address", "prctl": "int long long long long", "set_tid_address": "place",
     "execve": "place place place", "execveat": "int place place place int", "write": "int place long", "writev": "int place int", "dup": "int",
+    "ftruncate": "int long", "fstatfs": "int place", "fallocate": "int int long long", "memfd_create": "place int",
     "dup2": "int int", "dup3": "int int int", "fcntl": "int int long",
 }
 HALF = {"mode", "moves", "int"}  # the kinds of 32 bits, without a sign; a pid has one

@@ -40,7 +40,7 @@ class Recorder(Emulator):
 
     def __init__(self, *words):
         super().__init__(*words)
-        self.telling = None
+        self.telling = self.machine.pools = None
 
     def sweep(self, task, start=None, end=None):
         """Before a program ends, or where a report is wanted."""

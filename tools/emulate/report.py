@@ -6,6 +6,7 @@ from collections import Counter
 
 from .areas import shown_name
 from .made_up import area_rows
+from .pools import UNIT
 from .tracing import PAGE
 from .words import Unfit, read_lines
 
@@ -52,6 +53,8 @@ class Outcome:
     def failures(self):
         """(what differs from what is wanted, what can't be told)"""
         failures, untold = self.wanted.failures() if self.wanted else ([], [])
+        pools = self.report.machine.pools
+        failures = failures + (pools.failures if pools is not None else [])
         return failures, untold + [self.report.why] * bool(untold and self.report.why)
 
 
@@ -95,7 +98,9 @@ class Report:
         from .about import made_by  # (each start would take its time)
 
         parts = self.parts + [part_of(space, word, "running") for space, word in standing]
-        hits = {node: count for node, (count, *_) in enumerate(self.machine.hits) if count}
+        pools = self.machine.pools.placed if self.machine.pools is not None else {}
+        hits = {node: count + pools.get(node, 0) * UNIT for node, (count, *_) in enumerate(self.machine.hits)
+                if count or node in pools}
         return {**made_by(self.machine, self.is_real, self.words), "nodes": self.machine.count, "processes": parts,
                 "placed": None if self.is_real else hits, "raced": self.why}
 

@@ -6,6 +6,7 @@ from collections import Counter
 
 import numaplan
 
+from . import pools
 from .areas import Areas, joined, open_spans, shown_name, with_names
 from .common import leave, leave_all, share, written
 from .objects import have_known, have_new, inherited
@@ -23,6 +24,7 @@ LINES = {
     "map": "map 0x{:x} 0x{:x} 0x{:x}", "unmap": "unmap 0x{:x} 0x{:x}", "mbind": "mbind 0x{:x} 0x{:x} {}",
     "set_task": "task {} {}", "inherit": "inherit {} {}", "set_home": "home 0x{:x} 0x{:x} {}",
     "map_huge": "# left out: 0x{:x} 0x{:x}: huge pages, OFFSET 0x{:x}",
+    "map_pool": "map 0x{:x} 0x{:x} 0x{:x} huge {}",
 }
 
 
@@ -38,6 +40,7 @@ class Space:
         self.objects = Spans()  # by page which object it is of, and how far its index is from its number
         self.spans = Spans()  # what the core has mapped
         self.huge = Spans()  # what of it has pages of a pool: of how many bytes
+        self.made = pools.Made()  # those of pools that are made up
         self.areas = []  # all of them, as they were when they were last looked at as a whole
         self.names = Spans()  # that the program gave
         self.touchers, self.stacks = Touchers(), {}  # (the latter: by thread where its stack began)
@@ -55,8 +58,8 @@ class Space:
         """A command; its line is kept, as a comment where it is refused."""
         line = LINES[what].format(*words)
         try:
-            if what == "map_huge":
-                self.core.map(*words, huge=True)
+            if what in ("map_huge", "map_pool"):
+                self.core.map(*words[:3], huge=True)
             else:
                 getattr(self.core, what)(*words)
         except numaplan.Refused as refusal:
@@ -70,7 +73,7 @@ class Space:
     def without_huge(self, what, line, words):
         """The lines of a command for what isn't of pages of a pool, which scripts don't have."""
         start, length, word = words
-        if not self.huge.between(start, start + length):
+        if self.machine.pools is not None or not self.huge.between(start, start + length):
             return [line]
         parts = self.huge.gaps(start, start + length)
         return [f"# left out of huge pages: {line}"] + [LINES[what].format(low, high - low, word) for low, high in parts]
@@ -101,13 +104,13 @@ class Space:
 
     def look_at(self, areas, start, end):
         """The same; gives the areas there, whole."""
-        found = list(with_names(areas.between(start, end), self.names))
+        found = list(with_names(self.made.parted(areas.between(start, end)), self.names))
         for area in joined(found):
             for first, after in self.spans.gaps(area.start, area.end):
                 if area.name and not area.huge:
                     self.lines.append(f"# name: {shown_name(area.name)}")
                 self.map(first, after, area.index + (first - area.start) // PAGE, area.huge)
-                if area.shared:
+                if area.shared and not area.huge:
                     inherited(self, area, first, after)
         now = Spans()
         for area in found:
@@ -117,8 +120,12 @@ class Space:
                 self.unmap(*hole)  # (what went by a call that isn't followed)
         return found
 
-    def map(self, start, end, index, huge=0):
-        self.do("map_huge" if huge else "map", start, end - start, index)
+    def map(self, start, end, index, huge=0, words=None):
+        """`words`: what a script says of pages of a pool that is made up."""
+        if huge and self.machine.pools is not None:
+            self.do("map_pool", start, end - start, index, words or f"{self.leader} noreserve")
+        else:
+            self.do("map_huge" if huge else "map", start, end - start, index)
         self.spans.add(start, end)
         if huge:
             self.huge.add(start, end, huge)
@@ -137,6 +144,8 @@ class Space:
         if self.spans.between(start, end):
             self.do("unmap", start, end - start)
         self.forget(start, end)
+        if self.made:
+            pools.has_unmapped(self, start, end)
         self.spans.remove(start, end)
         self.huge.remove(start, end)
         self.names.remove(start, end)
@@ -150,11 +159,16 @@ class Space:
     def drop(self, start, end, are_copied=False):
         """The pages that have an address from start to end aren't placed any more; new ones may be copies of theirs."""
         first, after = start // PAGE, -(-end // PAGE)
+        units = pools.units_of(self, first, after) if self.made else ()
         for page in self.placed.drop(first, after):
             leave(self, page, are_copied)
             self.raced.pop(page, None)
             self.touched_by.pop(page, None)
         self.objects.remove(first, after)
+        pools.give_back(self, units)
+        if self.made:
+            self.made.kept.remove(start, end)
+            self.made.lost.remove(start, end)
 
     def placed_between(self, start, end):
         return self.placed.between(start // PAGE, -(-end // PAGE))
@@ -183,12 +197,16 @@ class Space:
         as the looker. Pages that are gone are forgotten."""
         start, end = start & -PAGE, min(-(-end // PAGE) * PAGE, TOP)
         there = Spans()
+        if self.made:
+            start, end = self.made.whole(start, end)
         with Pagemap(looker.number) as pagemap, Areas(looker.number) as areas:
             if self.common:
                 looker.take_of_all()
                 for page in list(written(self, start // PAGE, end // PAGE, pagemap)):
-                    self.drop(page * PAGE, (page + 1) * PAGE, True)
+                    self.drop(*self.made.whole(page * PAGE, (page + 1) * PAGE), True)
             runs = list(self.placeable(pagemap, areas, start, end))
+            if self.made:
+                runs = self.made.whole_runs(runs, pagemap, start, end)
             looker.take()  # (the faults of pages that were there a moment ago are told by now)
             for first, count in runs:
                 there.add(first, first + count)
@@ -248,7 +266,10 @@ class Space:
         has had before are where that one put them."""
         for gap in self.placed.runs.gaps(first, after):
             for span in have_known(self, area, *gap) if area.shared else [gap]:
-                self.place_new(*span, area, list(touched_by(*span)), looker)
+                if area.huge and self.machine.pools is not None:
+                    pools.place(self, *span, area, touched_by, looker)
+                else:
+                    self.place_new(*span, area, list(touched_by(*span)), looker)
 
     def place_new(self, first, after, area, parts, looker):
         """Places pages that aren't placed. All of the run is asked for once for each toucher, and its own are taken."""
@@ -299,9 +320,12 @@ class Space:
                     self.machine.hits[node][1] += some.count(node)
 
     def shared_of(self, task, pages):
-        """Those of the pages that another process has too: the kernel knows."""
+        """Those of the pages that another process has too: the kernel knows, but for those of pools that are made up."""
+        made = {page for page in pages if self.made.areas.has(page * PAGE)} if self.made else set()
+        units = {page for page in {self.made.unit(page) for page in made} if pools.is_shared(self, page)}
         with Pagemap(task) as pagemap:
-            return {page for page, entry in pagemap.entries(pages) if entry >> 62 and not is_own(entry)}
+            return {page for page, entry in pagemap.entries(set(pages) - made) if entry >> 62 and not is_own(entry)} | {
+                page for page in made if self.made.unit(page) in units}
 
     def is_zeros(self, task, page):
         with Pagemap(task) as pagemap:
@@ -335,7 +359,9 @@ class Space:
         other = type(self)(self.machine)
         other.placed, other.spans, other.areas = self.placed.copy(), self.spans.copy(), list(self.areas)
         other.lines, other.name, other.names = list(self.lines), self.name, self.names.copy()
-        other.huge = self.huge.copy()
+        other.huge, other.made = self.huge.copy(), self.made.copy()
+        if other.made:
+            self.machine.pools.spaces.add(other)
         other.core, other.takes_turns = self.core and self.core.copy(), self.takes_turns
         other.touchers, other.raced = self.touchers.copy(self.placed), self.raced.copy()
         other.touched_by, other.stacks = self.touched_by.copy(), self.stacks.copy()
@@ -347,7 +373,11 @@ class Space:
 
     def close(self):
         """The address space has ended."""
+        units = pools.units_of(self, 0, TOP // PAGE) if self.made else ()
         leave_all(self)
+        pools.give_back(self, units)
+        if self.made:
+            pools.has_unmapped(self, 0, TOP)
         self.touchers.close()
         self.core.close()
         self.core = None

@@ -38,10 +38,26 @@ def enter_namespace():
 
 def cover(room):
     """Puts the made-up folders over those of sysfs."""
-    for source, target in (("node", NODES), ("weights", WEIGHTS), ("cpu", CPUS)):
+    if os.path.isdir(f"{room}/pools") and not os.path.isdir(huge.POOLS):
+        make_place_of_pools(f"{room}/mm", os.path.dirname(huge.POOLS))
+    for source, target in (("node", NODES), ("weights", WEIGHTS), ("cpu", CPUS), ("pools", huge.POOLS)):
         if os.path.isdir(f"{room}/{source}") and (target == NODES or os.path.isdir(target)):
-            checked(LIBC.mount(f"{room}/{source}".encode(), target.encode(), None, BIND, None),
-                    f"{target} can't be covered")
+            bind(f"{room}/{source}", target)
+
+
+def make_place_of_pools(folder, parent):
+    """Where this machine has no folder of pools: its parent with one more."""
+    os.makedirs(f"{folder}/{os.path.basename(huge.POOLS)}")
+    for name in os.listdir(parent) if os.path.isdir(parent) else ():
+        if os.path.isdir(f"{parent}/{name}"):
+            os.mkdir(f"{folder}/{name}")
+            bind(f"{parent}/{name}", f"{folder}/{name}")
+    if os.path.isdir(parent):
+        bind(folder, parent)
+
+
+def bind(source, target):
+    checked(LIBC.mount(source.encode(), target.encode(), None, BIND | RECURSIVE, None), f"{target} can't be covered")
 
 
 def run_program(room, program, emulator, ready, go):

@@ -93,6 +93,11 @@ class Pagemap:
         rows = scanned(self.file, page * PAGE, page * PAGE + PAGE) if Pagemap.can_scan else ()
         return any(kind & IS_ZERO for _, _, kind in rows)
 
+    def zeros(self, start, end):
+        """(start, end) of what of it was read alone, as far as the kernel tells."""
+        rows = scanned(self.file, start, end) if Pagemap.can_scan else ()
+        return [(low, high) for low, high, kind in rows if kind & IS_ZERO]
+
     def entries(self, pages):
         """(page, its 8 bytes) of each page, in rising order."""
         begin, rows = 0, sorted(pages)
