@@ -5,6 +5,7 @@ Written from docs/SCRIPT.md alone. Not proved."""
 
 from collections import Counter
 
+import huge
 import placed
 from commands import COMMANDS, mems as allow
 from space import ERRNO, Space
@@ -44,6 +45,8 @@ WORKS = ["publish", "begin", "look", "try", "give", "touch", "release"]
 OF_HOST = ["room", "room alone", "memory-migrate"]  # what of pages is the host's
 PLACES = ["at", "populate", "migrate", "move", "moved"]
 BINDS = ["mbind strict", "mbind move", "mbind strict move"]
+MAPS = {"map huge": True, "map huge noreserve": False}  # whether pages are reserved
+POOLS = ["pool count", "pool node", "pool task"]
 
 
 class Host:
@@ -63,6 +66,8 @@ class Host:
         self.along = set()  # the processes of whose pages the last move was
         self.common = placed.Placed()  # the rooms, and whether pages follow
         self.common.follows = True
+        self.pools = huge.Pools(space.machine.memory)
+        self.huge = {}  # by process, once it has mapped pages of 2 MiB; all find the same pools
 
 
 class NoFrames:
@@ -81,6 +86,7 @@ class Process:
         self.placed = host.pages[process]
         self.placed.rooms = host.common.rooms
         self.placed.follows = host.common.follows
+        self.huge = host.huge.get(process)
 
     def give(self, name, arguments):
         """A command, which the host counts."""
@@ -119,7 +125,12 @@ def go_along(host, allowed):
             old, new = allowed.get(process), host.processes[process][1].allowed
             if old is not None and old != new:
                 host.along.add(process)
-                placed.follow(Process(host, process), old, new)
+                its = Process(host, process)
+                placed.follow(its, old, new)
+                if its.huge:
+                    huge.tell(its, Counter())
+                    if host.common.follows:
+                        huge.follow(its, old, new)
 
 
 def allowed_now(host):
@@ -211,6 +222,8 @@ def leave(host, process):
         return "NoSuchProcess"
     for page in list(host.pages[process].stated):
         placed.leave(Process(host, process).placed, page)
+    if process in host.huge:
+        huge.end_all(host.huge.pop(process))
     del host.processes[process], host.pages[process]
     host.arrivals.remove(process)
     host.along.discard(process)
@@ -246,6 +259,8 @@ def fork(host, parent, child, maker, number):
         copy.version += 1
         host.processes[child] = (group, copy)
         host.pages[child] = placed.Placed()
+        if parent in host.huge:
+            host.huge[child] = huge.child_of(host.huge[parent])
         come(host, child)
     return cause
 
@@ -311,6 +326,8 @@ def answer(host, line, ask):
         said, arguments = line_of(line)
         if said == "moved":
             return moved(host)
+        if said.startswith("pool"):
+            return pool(host, said, arguments)
         return placed.LINES[said](Common(host), *arguments) if said in OF_HOST else "bad state"
     if len(rest) != len(FORMS[name]):
         raise BadWords
@@ -319,11 +336,53 @@ def answer(host, line, ask):
     return fault.text if fault else accept(host, name, arguments)
 
 
+def pool(host, name, arguments):
+    """`pool`, `pool COUNT`, `pool NODE COUNT`: the host's; who resizes is allowed all nodes."""
+    memory = set(host.pools.memory)
+    if name == "pool task":
+        return "bad state"
+    if name == "pool count":
+        huge.resize(host.pools, memory, memory, *arguments)
+    cause = huge.resize_node(host.pools, *arguments, memory) if name == "pool node" else None
+    return cause or host.pools.text()
+
+
+def pool_in(host, its, name, arguments):
+    """The same of a process, which gives fresh pages to its own nodes alone."""
+    allowed, cause = its.space.allowed, None
+    if name == "pool count":
+        huge.resize(host.pools, set(host.pools.memory), allowed, *arguments)
+    elif name == "pool node":
+        cause = huge.resize_node(host.pools, *arguments, allowed)
+    else:
+        cause = huge.resize_for(host.pools, its.space, *arguments)
+    return cause or host.pools.text()
+
+
+def map_in(host, process, start, length, offset, task, reserves):
+    """`in P map .. huge`: hugetlb_reserve_pages comes behind the span, the offset and the overlap."""
+    said = [start, length, offset, task]
+    its = Process(host, process)
+    cause = COMMANDS["map huge"](its.space.copy(), *said)
+    pages = huge.pages_of(length)
+    late = cause in (None, "TooManyRanges")
+    if reserves and late and huge.lacks(its.space, host.pools, pages, task):
+        return "refused NoHugePages ENOMEM"
+    text = accept(host, "in", (process, "map huge", said))
+    if text.startswith("ok"):
+        if process not in host.huge:
+            host.huge[process] = huge.Huge(host.machine.memory)
+            host.huge[process].pools = host.pools
+        huge.keep_mapped(host.huge[process], start, pages, reserves)
+    return text
+
+
 def moved(host):
     """`moved`: what the last move of the host did to the processes that are there, together."""
     total = placed.Placed()
-    total.tell(sum((host.pages[it].flows for it in host.along), Counter()),
-               sum(host.pages[it].left for it in host.along))
+    sizes = [host.pages[it] for it in host.along]
+    sizes += [host.huge[it] for it in host.along if it in host.huge]
+    total.tell(sum((it.flows for it in sizes), Counter()), sum(it.left for it in sizes))
     flows = "".join(f" N{old}->N{new}={count}" for (old, new), count in sorted(total.flows.items()))
     return f"v{host.version}: {placed.done(total)}{flows}"
 
@@ -336,36 +395,48 @@ def answer_in(host, words, ask):
     if is_silent(line):
         raise BadWords
     name, arguments = line_of(line)
-    if name in NOT_IN + OF_HOST:
+    if name in NOT_IN + OF_HOST + ["pool"]:
         raise BadWords
     if name in WORKS:
         return "bad state"
     fault = next((it for it in arguments if isinstance(it, Fault)), None)
     if fault and not (host.machine.is_linux and is_found_late(name, arguments)):
         return fault.text
-    if name in COMMANDS or name in BINDS:
+    if name in COMMANDS or name in BINDS or name in MAPS:
         return answer_command(host, process, name, arguments)
     if process not in host.processes:
         return refused("NoSuchProcess")
+    if name in POOLS:
+        return pool_in(host, Process(host, process), name, arguments)
+    if name == "fault":
+        return huge.fault(Process(host, process), *arguments)
     if name in PLACES:
-        text = placed.LINES[name](Process(host, process), *arguments)
+        its = Process(host, process)
+        lines = huge.LATER if its.huge else placed.LINES
+        text = lines[name](its, *arguments)
         if name in ("migrate", "move") and not text.startswith("refused"):
             host.along = {process}
         return of_host(host, text)
     its = Process(host, process)
-    return ask(its.space, placed.nodes_of(its), name, arguments)
+    return ask(its.space, placed.nodes_of(its), name, arguments, its)
 
 
 def answer_command(host, process, name, arguments):
     """A command of a process, with what it does to its pages."""
     if process not in host.processes or host.version >= host.limits[2]:
-        return accept(host, "in", (process, name.split()[0], arguments[:3] if name in BINDS else arguments))
+        said = "map huge" if name in MAPS else name.split()[0]
+        return accept(host, "in", (process, said, arguments[:3] if name in BINDS else arguments))
+    if name in MAPS:
+        return map_in(host, process, *arguments, MAPS[name])
+    its = Process(host, process)
     if name in BINDS:
-        text = placed.LINES[name](Process(host, process), *arguments)
+        text = (huge.LATER if its.huge else placed.LINES)[name](its, *arguments)
         if " moved " in text:
             host.along = {process}
         return text
-    return placed.command(Process(host, process), name, arguments)
+    if name == "unmap" and its.huge:
+        return huge.unmap(its, *arguments)
+    return placed.command(its, name, arguments)
 
 
 def of_host(host, text):

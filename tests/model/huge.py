@@ -169,29 +169,37 @@ def pool_count(state, count):
 
 def pool_node(state, node, count):
     """`pool NODE COUNT`: a write to a node's nr_hugepages."""
-    pools = huge_of(state).pools
+    return resize_node(huge_of(state).pools, node, count, state.space.allowed) or pool(state)
+
+
+def resize_node(pools, node, count, allowed):
+    """The same, of pools: a refusal, or none."""
     if node not in pools.memory:
         return "refused NoSuchNode ENOENT"
     own = pools.total[node] - pools.surplus[node]
     if own < 0 or pools.lasting() < own:
         return "refused Unsure"
-    resize(pools, {node}, state.space.allowed, count + pools.lasting() - own)
-    return pool(state)
+    resize(pools, {node}, allowed, count + pools.lasting() - own)
+    return None
 
 
 def pool_task(state, count, task, cpu):
     """`pool COUNT TASK CPU`: a write to nr_hugepages_mempolicy."""
-    pools = huge_of(state).pools
-    if cpu >= state.space.machine.nodes:
+    return resize_for(huge_of(state).pools, state.space, count, task, cpu) or pool(state)
+
+
+def resize_for(pools, space, count, task, cpu):
+    """The same, of pools: a refusal, or none."""
+    if cpu >= space.machine.nodes:
         return "refused BadCpu EINVAL"
-    record = state.space.tasks.get(task)
+    record = space.tasks.get(task)
     nodes = set(pools.memory)
     if record is not None and record.mode == "local":
         nodes = {cpu}
     elif record is not None and record.nodes:
         nodes = set(record.nodes)
-    resize(pools, nodes, state.space.allowed, count)
-    return pool(state)
+    resize(pools, nodes, space.allowed, count)
+    return None
 
 
 # ---- mappings
@@ -201,26 +209,60 @@ def map_huge(state, start, length, offset, task, reserves=True):
     """`map .. huge TASK`: hugetlb_reserve_pages comes behind the span, the offset and the overlap."""
     huge = huge_of(state)
     pools = huge.pools
-    pages = -(-length // (HUGE * 4096))
+    pages = pages_of(length)
     text, space = accept(state.space.copy(), "map huge", [start, length, offset, task])
     late = text.startswith(("ok", "refused TooManyRanges"))
-    if reserves and late:
-        record = state.space.tasks.get(task)
-        nodes = set(state.space.allowed)
-        if record is not None and record.mode == "bind" and record.nodes & nodes:
-            nodes &= record.nodes
-        if pools.spare() < pages:
-            return "refused NoHugePages ENOMEM"
-        if sum(pools.free[node] for node in nodes) < pages:
-            end_surplus(pools, pages)  # reserved, and given back
-            return "refused NoHugePages ENOMEM"
+    if reserves and late and lacks(state.space, pools, pages, task):
+        return "refused NoHugePages ENOMEM"
     if text.startswith("ok"):
         state.space = space
-        first = start // (HUGE * 4096)
-        for page in range(first, first + pages):
-            huge.spots[page] = RESERVED if reserves else BARE
-        pools.reserved += pages if reserves else 0
+        keep_mapped(huge, start, pages, reserves)
     return text
+
+
+def pages_of(length):
+    """How many pages of 2 MiB so many bytes take."""
+    return -(-length // (HUGE * 4096))
+
+
+def lacks(space, pools, pages, task):
+    """Whether a mapping of a task finds too few pages; where there are enough, but not on its nodes, it has
+    reserved them and gives them back."""
+    record = space.tasks.get(task)
+    nodes = set(space.allowed)
+    if record is not None and record.mode == "bind" and record.nodes & nodes:
+        nodes &= record.nodes
+    if pools.spare() < pages:
+        return True
+    if sum(pools.free[node] for node in nodes) < pages:
+        end_surplus(pools, pages)
+        return True
+    return False
+
+
+def keep_mapped(huge, start, pages, reserves):
+    """Pages are mapped, untouched."""
+    first = start // (HUGE * 4096)
+    for page in range(first, first + pages):
+        huge.spots[page] = RESERVED if reserves else BARE
+    huge.pools.reserved += pages if reserves else 0
+
+
+def end_all(huge):
+    """All pages of a process are gone, as it ends."""
+    for spot in sorted(it for it in huge.spots.values() if is_there(it)):
+        free_page(huge.pools, spot)
+    given = list(huge.spots.values()).count(RESERVED)
+    huge.pools.reserved -= given
+    end_surplus(huge.pools, given)
+
+
+def child_of(huge):
+    """What a child begins with: all that its parent has mapped, untouched and without reservations."""
+    child = Huge(huge.pools.memory)
+    child.pools = huge.pools
+    child.spots = {page: BARE for page in huge.spots}
+    return child
 
 
 def map_without(state, start, length, offset, task):
@@ -433,7 +475,7 @@ def bind_and_move(state, start, length, asked, task, cpu, is_strict=False):
             flows[lies, aim] += 1
     tell(state, flows, left)
     late = " EIO" if state.placed.left + left and is_strict and asked.mode != "default" else ""
-    return f"ok {state.space.version} {done(state)}{late}"
+    return f"{' '.join(text.split()[:2])} {done(state)}{late}"
 
 
 def bind_strictly_and_move(state, start, length, asked, task, cpu):

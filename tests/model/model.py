@@ -80,8 +80,9 @@ OPENING = {"limits": limits, "rules": rules, "cpus": cpus, "machine": machine}
 
 
 def host(state):
-    """`host`: behind `machine` and before every command, all that follows is a host's."""
-    if state.space is None or state.space.version > 0:
+    """`host`: behind `machine` and before every command and every `pool` that says a number, all that
+    follows is a host's."""
+    if state.space is None or state.space.version > 0 or state.huge:
         return "bad state"
     state.host = hosts.Host(state.space)
     return "host ok"
@@ -153,12 +154,12 @@ def counts(space, task, address, pages, cpu):
 QUESTIONS = {"place": place, "span": span, "counts": counts}
 
 
-def asked(space, nodes, name, arguments):
+def asked(space, nodes, name, arguments, process):
     """The answer of a process of a host, whose pages lie on these nodes."""
     if name == "ranges":
         return f"ranges {len(ranges(space))}"
     if name == "maps":
-        return maps(space, nodes, *arguments)
+        return maps(space, nodes, *arguments, process)
     return QUESTIONS[name](space, *arguments)
 
 
