@@ -49,8 +49,8 @@ pub fn moves_add_up()
 {}
 
 /// Where no process has mapped pages of 2 MiB, there is nothing of them: no command changes the
-/// pools or gives a process such pages, and what the host's last move did is what it did to pages of
-/// 4 KiB. What a command does to these is the same whatever pages of 2 MiB there are.
+/// pools or gives a process such pages, and what the host's last move did is what it did to pages
+/// of 4 KiB. What a command does to these is the same whatever pages of 2 MiB there are.
 pub fn small_hosts()
     ensures stay { (lacks : ℕ → ℕ → Lack) (machine : Hardware) (history : List HostCommand)
         (said : HostCommand) (at : HostLying) → at.huge.homes ≡ []

@@ -26,8 +26,9 @@ use numa_huge::HugePages;
 use numa_machine::PageSize;
 use numa_maps::Resident;
 use numa_mask::{NodeId, NodeMask};
-use numa_page_state::huge::{mapping_nodes, resizing_nodes};
-use numa_page_state::pooling::{lacks_if, mapped_pages, place_cause, pool_refusal};
+use numa_page_state::pooling::{
+    lacks_if, mapped_pages, mapping_nodes, place_cause, pool_refusal, resizing_nodes,
+};
 use numa_page_state::{PageState, is_late_in};
 use numa_requests::{Command, HostCommand, HostRefusal, HugeRefusal, PAGE_BYTES, PlacedRefusal};
 use numa_run::huge::{MOST_PAGES, fault_reply};

@@ -56,9 +56,9 @@ fn write_counted(
     text.push('\n');
 }
 
-/// Writes the line of one range, as [`write_maps`](crate::write_maps) does: a range of pages of 4 KiB
-/// that begins at page `first`, whose pages have this policy, and of which `count` lie somewhere,
-/// `pages[n]` of them on node n.
+/// Writes the line of one range, as [`write_maps`](crate::write_maps) does: a range of pages of
+/// 4 KiB that begins at page `first`, whose pages have this policy, and of which `count` lie
+/// somewhere, `pages[n]` of them on node n.
 pub fn say_counted<W: Write>(
     policy: Option<Record>,
     first: u64,

@@ -41,10 +41,10 @@ pub fn say_maps<W: Write>(space: &Space, task: u32, resident: &Resident, output:
 /// - a space, and the policy that serves a fault of the task there, with its effective set: the
 ///   range's if it is live, else the task's if it is live, else `default`;
 /// - if the range has placed pages, ` anon=` and their number; for each node that has some of them,
-///   in ascending order, ` N<node>=` and their number; and ` kernelpagesize_kB=4`. Of pages of 2 MiB
-///   these are counted, each on the node of the lowest of its parts that are placed, and the size is
-///   ` kernelpagesize_kB=2048`. Placed pages of all tasks are shown, but no placement on an unmapped
-///   page;
+///   in ascending order, ` N<node>=` and their number; and ` kernelpagesize_kB=4`. Of pages of
+///   2 MiB these are counted, each on the node of the lowest of its parts that are placed, and the
+///   size is ` kernelpagesize_kB=2048`. Placed pages of all tasks are shown, but no placement on an
+///   unmapped page;
 /// - a line feed.
 ///
 /// Other fields of numa_maps are left out. It doesn't allocate. Lines are handed to the writer

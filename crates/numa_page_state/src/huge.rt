@@ -3,8 +3,6 @@ ghost use Rattle.std.specs.Prelude.{◌≡◌, ◌+◌, ◌<◌, ◌≤◌, ◌^
 ghost use Rattle.std.specs.Prelude.{List};
 ghost use Rattle.std.specs.Prelude.{[], MatchResult, None, OnErr, OnOk, Option, Some, true};
 ghost use Rattle.std.specs.Prelude.{is_some};
-ghost use Rattle.numa_mask.specs.NodeSet.{with_node};
-ghost use Rattle.numa_mode.specs.Policy.{is_local_mode};
 ghost use Rattle.numa_maps.specs.Residents.{Kept};
 ghost use Rattle.numa_placed.specs.Refusals.{move_cause};
 ghost use Rattle.numa_space.specs.History.{page_count, page_of};
@@ -20,8 +18,7 @@ ghost use Rattle.numa_page_state.specs.Huge.{HugeFaults, HugeGoes, HugeMoves, fa
 ghost use Rattle.numa_page_state.specs.Huge.{has_huge_in};
 ghost use Rattle.numa_page_state.specs.Huge.{huge_at_address, huge_astray, huge_count, huge_first};
 ghost use Rattle.numa_page_state.specs.Huge.{huge_followed, huge_page, huge_walk, huge_walk_in};
-ghost use Rattle.numa_page_state.specs.Huge.{is_bind, mapping_nodes, move_lack_by};
-ghost use Rattle.numa_page_state.specs.Huge.{resizing_nodes, small_fault, spot_of, touch_walk};
+ghost use Rattle.numa_page_state.specs.Huge.{move_lack_by, small_fault, spot_of, touch_walk};
 ghost use Rattle.numa_page_state.specs.Lying.{Lying, OfNodes, ground_in, process_in, still};
 ghost use Rattle.numa_page_state.specs.Sending.{command_of};
 ghost use Rattle.numa_page_state.specs.Standing.{DoesAs, Lies, LiesAs};
@@ -33,8 +30,7 @@ use crate::state::{PageState, still};
 use numa_huge::{Flows, HugeArrived, HugeLast, HugePages, HugePlaces};
 use numa_machine::NoMemory;
 use numa_maps::Resident;
-use numa_mask::{NodeId, NodeMask};
-use numa_mode::{Mode, Record};
+use numa_mask::NodeMask;
 use numa_placed::{Moved, Spot, judged_pages, lacks_node};
 use numa_requests::{MoveRefusal, PAGE_BYTES, PlacedRefusal};
 use numa_space::Space;
@@ -108,67 +104,6 @@ pub fn is_huge_at(huge: &Option<HugePages>, address: u64) -> bool
         return false;
     };
     is_huge_in(&kept.places, address)
-}
-
-/// Whether a policy of this mode binds pages to its nodes.
-fn is_bind(mode: Mode) -> bool
-    ensures { result ≡ is_bind mode }
-{
-    matches!(mode, Mode::Bind)
-}
-
-/// The nodes that may give the pages of a mapping of a task with this policy.
-pub fn mapping_nodes(policy: Option<Record>, allowed: &NodeMask) -> NodeMask
-    ensures { result ≡ mapping_nodes policy allowed.now }
-{
-    let Some(policy) = policy else {
-        return *allowed;
-    };
-    if !is_bind(policy.spec().mode()) {
-        return *allowed;
-    }
-    let bound = policy.effective().and(allowed);
-    if bound.is_empty() {
-        return *allowed;
-    }
-    bound
-}
-
-/// A set of one node.
-fn alone(node: u8) -> NodeMask
-    ensures { result ≡ with_node 0 node }
-{
-    let mut set = NodeMask::empty();
-    let Some(node) = NodeId::new(node) else {
-        unreachable!()
-    };
-    set.insert(node);
-    set
-}
-
-/// Whether a policy of this mode goes by the CPU.
-fn is_local(mode: Mode) -> bool
-    ensures { result ≡ is_local_mode mode }
-{
-    matches!(mode, Mode::Local)
-}
-
-/// The nodes whose pools are resized by a task with this policy, on a CPU of node `cpu`.
-pub fn resizing_nodes(policy: Option<Record>, memory: &NodeMask, cpu: u32) -> NodeMask
-    requires { cpu ≤ 255 }
-    ensures { result ≡ resizing_nodes policy memory.now cpu }
-{
-    let Some(policy) = policy else {
-        return *memory;
-    };
-    if is_local(policy.spec().mode()) {
-        return alone(cpu as u8);
-    }
-    let nodes = policy.effective();
-    if nodes.is_empty() {
-        return *memory;
-    }
-    nodes
 }
 
 // ---- first touches

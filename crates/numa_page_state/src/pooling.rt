@@ -2,14 +2,18 @@
 //! words in which calls about such pages are refused.
 ghost use Rattle.std.specs.Prelude.{◌≡◌, ◌≤◌, ◌<◌, ◌^◌, ◌&&◌, OnErr, OnOk, false, true};
 ghost use Rattle.std.specs.Result.{result_err};
+ghost use Rattle.numa_mask.specs.NodeSet.{with_node};
+ghost use Rattle.numa_mode.specs.Policy.{is_local_mode};
 ghost use Rattle.numa_pools.specs.Pools.{lacks_pages, unreserved};
 ghost use Rattle.numa_pools.specs.Resize.{node_refusal, resized_node};
+ghost use Rattle.numa_page_state.specs.Huge.{is_bind, mapping_nodes, resizing_nodes};
 ghost use Rattle.numa_page_state.specs.Pooling.{fault_cause, mapped_pages, place_cause};
 ghost use Rattle.numa_page_state.specs.Pooling.{pool_refusal};
 
 use numa_huge::HugePlaces;
 use numa_machine::{PageSize, PlaceRefusal};
 use numa_mask::{NodeId, NodeMask};
+use numa_mode::{Mode, Record};
 use numa_pools::{PoolRefusal, Pools};
 use numa_requests::{HugeRefusal, PlacedRefusal};
 
@@ -59,6 +63,67 @@ pub fn lacks_if(pools: &Pools, reserves: bool, pages: u64, nodes: &NodeMask) -> 
         return false;
     }
     pools.lacks(pages, nodes)
+}
+
+/// Whether a policy of this mode binds pages to its nodes.
+fn is_bind(mode: Mode) -> bool
+    ensures { result ≡ is_bind mode }
+{
+    matches!(mode, Mode::Bind)
+}
+
+/// The nodes that may give the pages of a mapping of a task with this policy.
+pub fn mapping_nodes(policy: Option<Record>, allowed: &NodeMask) -> NodeMask
+    ensures { result ≡ mapping_nodes policy allowed.now }
+{
+    let Some(policy) = policy else {
+        return *allowed;
+    };
+    if !is_bind(policy.spec().mode()) {
+        return *allowed;
+    }
+    let bound = policy.effective().and(allowed);
+    if bound.is_empty() {
+        return *allowed;
+    }
+    bound
+}
+
+/// A set of one node.
+fn alone(node: u8) -> NodeMask
+    ensures { result ≡ with_node 0 node }
+{
+    let mut set = NodeMask::empty();
+    let Some(node) = NodeId::new(node) else {
+        unreachable!()
+    };
+    set.insert(node);
+    set
+}
+
+/// Whether a policy of this mode goes by the CPU.
+fn is_local(mode: Mode) -> bool
+    ensures { result ≡ is_local_mode mode }
+{
+    matches!(mode, Mode::Local)
+}
+
+/// The nodes whose pools are resized by a task with this policy, on a CPU of node `cpu`.
+pub fn resizing_nodes(policy: Option<Record>, memory: &NodeMask, cpu: u32) -> NodeMask
+    requires { cpu ≤ 255 }
+    ensures { result ≡ resizing_nodes policy memory.now cpu }
+{
+    let Some(policy) = policy else {
+        return *memory;
+    };
+    if is_local(policy.spec().mode()) {
+        return alone(cpu as u8);
+    }
+    let nodes = policy.effective();
+    if nodes.is_empty() {
+        return *memory;
+    }
+    nodes
 }
 
 /// Makes the pool of a node have so many pages, whatever number says the node.

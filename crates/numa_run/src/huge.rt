@@ -19,10 +19,11 @@ use crate::running::{Running, Taken};
 use numa_huge::HugePages;
 use numa_machine::PageSize;
 use numa_mask::NodeMask;
-use numa_page_state::huge::{huge_fault, is_huge_at, mapping_nodes, resizing_nodes};
+use numa_page_state::huge::{huge_fault, is_huge_at};
 use numa_page_state::is_late_in;
 use numa_page_state::pooling::{
-    fault_cause, lacks_if, mapped_pages, place_cause, pool_refusal, resize_node,
+    fault_cause, lacks_if, mapped_pages, mapping_nodes, place_cause, pool_refusal, resize_node,
+    resizing_nodes,
 };
 use numa_page_state::state::begins_starved;
 use numa_pools::PoolRefusal;

@@ -14,9 +14,10 @@ use crate::trial::carried_out;
 use numa_huge::HugePlaces;
 use numa_machine::PageSize;
 use numa_mask::NodeMask;
-use numa_page_state::huge::{mapping_nodes, resizing_nodes};
 use numa_page_state::is_late_in;
-use numa_page_state::pooling::{lacks_if, mapped_pages, pool_refusal, resize_node};
+use numa_page_state::pooling::{
+    lacks_if, mapped_pages, mapping_nodes, pool_refusal, resize_node, resizing_nodes,
+};
 use numa_requests::HugeRefusal;
 use std::mem::replace;
 
