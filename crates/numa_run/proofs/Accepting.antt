@@ -1,5 +1,5 @@
 -- What a command makes of a running machine, and of where its pages lie.
-use Rattle.std.proofs.Common.{◌≡◌, ℕ, Bool, false, Option, Some, Result}
+use Rattle.std.proofs.Common.{◌≡◌, ℕ, Option, Some, Result}
 use Rattle.std.proofs.Common.{sym, ap, subst, ◌∙◌, inl, inr, ◌⊎◌}
 use Rattle.std.specs.Prelude.{is_ok, if◌then◌else◌}
 use Rattle.numa_machine.specs.Machine.{Hardware}

@@ -1,5 +1,5 @@
 -- What more is so where the core accepted a command, and what lack of memory leaves as it was.
-use Rattle.std.proofs.Common.{◌≡◌, ℕ, Bool, true, false, Option, Result, Ok, Err}
+use Rattle.std.proofs.Common.{◌≡◌, ℕ, true, false, Option, Result, Ok, Err}
 use Rattle.std.proofs.Common.{sym, ap, ◌∙◌, inl, inr}
 use Rattle.std.specs.Prelude.{is_err, if◌then◌else◌}
 use Rattle.numa_machine.specs.Machine.{Hardware}

@@ -310,7 +310,8 @@ module _ (old : Running) (said : Rebinding) (words : MoveWords) (pages : Option 
         | inr e ↦
             let so = sends-here (Err why) all state stands e in
             served old here (command_reply why) sends state state (lack_told why)
-            (send-free (lack_told why) state e so.0 ∙ ap (λ (o : Option PlacedRefusal). unless_pages o state
+            (send-free (lack_told why) state e so.0
+            ∙ ap (λ (o : Option PlacedRefusal). unless_pages o state
             (sent_outcome old.core.space.machine state said words)) so.1) runs
       ]
 
@@ -327,7 +328,8 @@ module _ (old : Running) (said : Rebinding) (words : MoveWords) (pages : Option 
 
     -- the policy is set, and the pages went, of which none has 2 MiB
     pub send-done : old.huge ≡ None → (version : ℕ) (done : Sending)
-        (pages_then : Option PageState) (late : Bool) → Accepts old.core (command_of said) (Ok version) core → SendsFrom (Ok (Some done))
+        (pages_then : Option PageState) (late : Bool)
+        → Accepts old.core (command_of said) (Ok version) core → SendsFrom (Ok (Some done))
         → ((lying : Lying) (kept : Kept) (asked : Asked) → Lies pages lying
         → HasSent done kept asked lying → Lies pages_then (with_sent kept asked lying))
         → late ≡ tells_left words.strict said.spec done.left

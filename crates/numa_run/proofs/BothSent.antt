@@ -1,7 +1,7 @@
 -- What an `mbind .. move` makes of a running machine that keeps pages of 2 MiB.
-use Rattle.std.proofs.Common.{◌≡◌, ℕ, ◌+◌, ◌<◌, ◌^◌, suc, Bool, true, Option, Some, None, Result}
+use Rattle.std.proofs.Common.{◌≡◌, ℕ, ◌+◌, ◌<◌, ◌^◌, suc, Bool, Option, Some, None, Result}
 use Rattle.std.proofs.Common.{Ok, Err, List, length, refl, sym, ap, subst, ◌∙◌, inl, inr, arith}
-use Rattle.std.specs.Prelude.{IfOk, IsSomeAnd, if◌then◌else◌, min}
+use Rattle.std.specs.Prelude.{IfOk, IsSomeAnd, min}
 use Rattle.numa_machine.specs.Machine.{Hardware}
 use Rattle.numa_machine.specs.declared.no_memory.NoMemory.{NoMemory}
 use Rattle.numa_maps.specs.Residents.{Kept}

@@ -96,8 +96,8 @@ changed-keeps : (lack : Lack) (machine : Hardware) (state : State) (said : PageL
 changed-keeps lack machine state said =
     let done = change_of lack (ground_of (process_on machine state)) said
     (record state.lying { begun = true }) in
-    either-keeps (not state.lying.begun && is_starved lack) state (with_reply (lack_reply said) state)
-    (with_change state done) refl (answered-keeps state done.0 done.1)
+    either-keeps (not state.lying.begun && is_starved lack) state
+    (with_reply (lack_reply said) state) (with_change state done) refl (answered-keeps state done.0 done.1)
 
 module _ (lack : Lack) (machine : Hardware) (state : State) where
   lying-keeps : (command : Command) (lying : Lying)
@@ -264,7 +264,8 @@ module _ (lack : Lack) (machine : Hardware) (state : State) where
 astray-keeps : (lack : Lack) (machine : Hardware) (state : State) (command : Command)
     → Keeps state (astray_outcome lack machine state command)
 astray-keeps lack machine state command =
-    let late = is_late machine.rules (refusal_of machine state.bounds state.world.history command) in
+    let late = is_late machine.rules
+    (refusal_of machine state.bounds state.world.history command) in
     let astray : Served = with_reply (command_reply cause.Astray) state in
     let plain : Served = accepted_outcome Enough machine state command in
     either-keeps (is_starved lack) state (with_reply (command_reply cause.NoMemory) state)
@@ -332,7 +333,8 @@ so-keeps lack machine state command pages =
 lacking-keeps : (lack : Lack) (machine : Hardware) (pages : ℕ) (state : State) (command : Command)
     → Keeps state (lacking_outcome lack machine pages state command)
 lacking-keeps lack machine pages state command =
-    let late = is_late machine.rules (refusal_of machine state.bounds state.world.history command) in
+    let late = is_late machine.rules
+    (refusal_of machine state.bounds state.world.history command) in
     let none : Served = refused_for because.NoHugePages
     (with_pools (refusing (pools_on machine state) pages) machine state) in
     let plain : Served = accepted_outcome Enough machine state command in

@@ -1,5 +1,5 @@
 -- What a running machine does with commands and the lines of workers.
-use Rattle.std.proofs.Common.{◌≡◌, ℕ, Bool, true, false, Option, Some, None, Result, Ok, Err}
+use Rattle.std.proofs.Common.{◌≡◌, ℕ, true, false, Option, Some, None, Result, Ok, Err}
 use Rattle.std.proofs.Common.{is_some, refl, sym, ap, subst, ◌∙◌}
 use Rattle.std.specs.Prelude.{is_ok, is_err, if◌then◌else◌}
 use Rattle.numa_core.specs.World.{World, newest_published}

@@ -213,7 +213,8 @@ pub asked-starved : (running : Running) (asked : Question) (lack : Lack) (state 
 asked-starved running asked lack state stands ranges =
     subst (λ (o : Option Reply). IsTrue (is_starved lack) ↔ IsSomeAnd o LacksMemory)
     (asked-fault running asked lack state stands)
-    (cause-starved (is_starved lack) (setup_of running.core).machine state.world.history asked ranges)
+    (cause-starved (is_starved lack) (setup_of running.core).machine state.world.history asked
+    ranges)
 
 -- a line without a fault lacks no memory
 pub faultless-starved : (said : Line) (state : State) → None ≡ fault_of Enough state said

@@ -5,7 +5,7 @@ use Rattle.std.specs.Prelude.{slice_index}
 use Rattle.numa_ranges.specs.declared.run.Run.{Run}
 use Rattle.numa_space.specs.Policies.{allowed_nodes}
 use Rattle.numa_pools.specs.Pools.{PoolCounts}
-use Rattle.numa_huge.specs.Huge.{HugeLying, HugePlaced, places_of}
+use Rattle.numa_huge.specs.Huge.{HugeLying, places_of}
 use Rattle.numa_huge.specs.Moves.{HugeArrival, HugeMemory, HugeTold, memory_or}
 use Rattle.numa_huge.specs.Tallies.{HaveArrived, IsMemory, StandsForHuge, flow_of, left_of}
 use Rattle.numa_huge.specs.Tallies.{moved_of}

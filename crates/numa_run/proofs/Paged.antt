@@ -1,8 +1,8 @@
 -- What a line about pages makes of a running machine, where some pages may have 2 MiB.
-use Rattle.std.proofs.Common.{◌≡◌, ◌≢◌, ℕ, ◌+◌, ◌<◌, ◌≤◌, ◌^◌, Bool, true, false, Option, Some}
+use Rattle.std.proofs.Common.{◌≡◌, ◌≢◌, ℕ, ◌+◌, ◌≤◌, Bool, true, false, Option, Some}
 use Rattle.std.proofs.Common.{None, refl, sym, ap, subst, ◌∙◌, arith}
 use Rattle.std.specs.Option.{option_map}
-use Rattle.std.specs.Prelude.{◌&&◌, if◌then◌else◌, is_some, min}
+use Rattle.std.specs.Prelude.{if◌then◌else◌, is_some, min}
 use Rattle.numa_machine.specs.Machine.{Hardware}
 use Rattle.numa_mask.specs.NodeSet.{both}
 use Rattle.numa_space.specs.Policies.{allowed_nodes}
@@ -22,7 +22,7 @@ use Rattle.numa_run.specs.PageLines.{huge_move_outcome, migrate_where}
 use Rattle.numa_run.specs.PageLines.{migrated_by, move_where, page_outcome}
 use Rattle.numa_run.specs.PageLines.{shift_told, small_moved, tells_move, unless_huge}
 use Rattle.numa_run.specs.Obeying.{with_huge}
-use Rattle.numa_run.specs.Standing.{Changes, RunsAs, Serves}
+use Rattle.numa_run.specs.Standing.{RunsAs, Serves}
 use Rattle.numa_run.specs.States.{State}
 use Rattle.numa_run.specs.declared.running.Running.{Running}
 use Rattle.numa_run.proofs.Accepting.{served, serves-by}
@@ -30,14 +30,6 @@ use Rattle.numa_page_state.proofs.Few.{leave-few}
 use Rattle.numa_run.proofs.Few.{changed-few}
 use Rattle.numa_run.proofs.Keeping.{huge-so}
 use Rattle.numa_run.proofs.PageChanges.{changed-huge}
-
--- a line that has a reply
-pub replied-serves : (old new : Running) (answer : Reply)
-    (serve : Lack → Hardware → State → Served) → Changes old (Some answer) new serve
-    → Serves old answer new serve
-replied-serves old new answer serve changes = λ state stands.
-    let c = changes state stands in
-    served old new answer serve state c.1 c.0 c.2 c.3
 
 -- ---- a page of 2 MiB stands against it
 
@@ -209,7 +201,8 @@ module _ (old : Running) (address node : ℕ) where
         → Serves old answer (record mid { huge = huge }) moves
     small-serves huge rested tells goes = λ state stands.
         let s = serves state stands in
-        let memory = option_map (λ (m : HugeMemory). if rested then huge_rested m else m) state.huge in
+        let memory = option_map (λ (m : HugeMemory). if rested then huge_rested m else m)
+        state.huge in
         served old (record mid { huge = huge }) answer moves state
         (record (small_move s.0 state).state { huge = memory }) s.0
         (small-where state.huge s.0 state (none_there state.huge stands.huge) refl rested tells s.1
@@ -228,7 +221,8 @@ module _ (old : Running) (address node : ℕ) where
         (λ memory stands. by memory stands)
       where
         by : (memory : Option HugeMemory) → StandsForHuge mid.huge memory
-            → StandsForHuge mid.huge (option_map (λ (m : HugeMemory). if false then huge_rested m else m) memory)
+            → StandsForHuge mid.huge
+            (option_map (λ (m : HugeMemory). if false then huge_rested m else m) memory)
         by None stands = stands
         by (Some memory) stands = stands
 
@@ -236,7 +230,8 @@ module _ (old : Running) (address node : ℕ) where
     pub small-rested : (huge : Option HugePages)
         → ((memory : Option HugeMemory) → StandsForHuge mid.huge memory
         → StandsForHuge huge (option_map huge_rested memory))
-        → (to : ℕ) → answer ≡ reply.MovedTo to → Serves old answer (record mid { huge = huge }) moves
+        → (to : ℕ) → answer ≡ reply.MovedTo to
+        → Serves old answer (record mid { huge = huge }) moves
     small-rested huge rests to told = small-serves huge true
         (ap (λ (r : Reply). tells_move (Replied r)) told) (λ memory stands. by memory
         (rests memory stands))

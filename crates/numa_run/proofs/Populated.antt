@@ -234,7 +234,9 @@ module _ (old : Running) (start bytes task cpu : ℕ) where
   small-where : (memory : Option HugeMemory) (lack : Lack) (state : State)
       → state.huge ≡ memory → has_huge_in memory (page_of start) (page_count bytes) ≡ false
       → populate_where memory lack old.core.space.machine state start bytes task cpu
-      ≡ small lack (record state { huge = option_map (λ (m : HugeMemory). record m { arrived = None }) memory })
+      ≡ small lack (record state {
+        huge = option_map (λ (m : HugeMemory). record m { arrived = None }) memory;
+      })
   small-where None lack state is none =
       ap (λ (h : Option HugeMemory). small lack (record state { huge = h })) is
   small-where (Some memory) lack state is none =

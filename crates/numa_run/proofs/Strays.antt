@@ -1,5 +1,5 @@
 -- Whether pages of either size lie on other nodes than those of a list.
-use Rattle.std.proofs.Common.{◌≡◌, ℕ, Bool, true, false, Option, Some, None, List, sym, ap}
+use Rattle.std.proofs.Common.{◌≡◌, ℕ, Bool, true, false, Option, Some, None, sym, ap}
 use Rattle.std.proofs.Common.{◌∙◌}
 use Rattle.std.specs.Prelude.{◌||◌}
 use Rattle.numa_placed.specs.declared.spot.Spot.{Spot}

@@ -6,8 +6,8 @@ ghost use Rattle.numa_huge.specs.Moves.{HugeMemory};
 ghost use Rattle.numa_huge.specs.Tallies.{StandsForHuge};
 ghost use Rattle.numa_page_state.specs.Huge.{both_populated, has_huge_in, huge_at_address};
 ghost use Rattle.numa_page_state.specs.Huge.{huge_followed, huge_rested};
-ghost use Rattle.numa_page_state.specs.Lying.{Lying, ground_in};
-ghost use Rattle.numa_page_state.specs.Standing.{DoesAs, LiesAs};
+ghost use Rattle.numa_page_state.specs.Lying.{ground_in};
+ghost use Rattle.numa_page_state.specs.Standing.{DoesAs};
 ghost use Rattle.numa_run.specs.PageLines.{also_moved, change_of, changed, has_reply, lack_reply};
 ghost use Rattle.numa_run.specs.PageLines.{migrate_reply, move_reply, page_outcome, page_reply};
 ghost use Rattle.numa_run.specs.PageLines.{touch_reply};
@@ -196,7 +196,8 @@ fn touch_both(
 /// Nothing is told of first touches of pages of 2 MiB, where any are kept.
 fn forget_arrived(huge: &mut Option<HugePages>)
     ensures { (memory : Option HugeMemory) → StandsForHuge huge.old memory
-        → StandsForHuge huge.new (option_map (λ (kept : HugeMemory). record kept { arrived = None }) memory) }
+        → StandsForHuge huge.new
+            (option_map (λ (kept : HugeMemory). record kept { arrived = None }) memory) }
 {
     if let Some(kept) = huge {
         kept.arrived = None;

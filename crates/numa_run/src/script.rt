@@ -7,7 +7,7 @@ ghost use Rattle.numa_page_state.specs.Standing.{LiesAs};
 ghost use Rattle.numa_run.specs.Answers.{State, own_line, start, start_by};
 ghost use Rattle.numa_run.specs.Scripts.{IsCoreIn, IsResidentIn, ScriptJudges, ScriptReplies};
 ghost use Rattle.numa_run.specs.Scripts.{ScriptStandsFor, ScriptTakes, ScriptTells, ScriptWrites};
-ghost use Rattle.numa_run.specs.Standing.{Replies, Stands};
+ghost use Rattle.numa_run.specs.Standing.{Replies};
 
 use crate::build::build;
 use crate::running::{Running, Taken};

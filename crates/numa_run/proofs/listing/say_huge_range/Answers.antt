@@ -1,4 +1,4 @@
-use Rattle.std.proofs.Common.{◌≡◌, ℕ, ◌<◌, ◌≤◌, ap, arith, slice_index, ◌∙◌}
+use Rattle.std.proofs.Common.{◌≡◌, ℕ, ◌<◌, ap, arith, slice_index, ◌∙◌}
 use Rattle.numa_lines.proofs.Adding.{said_same}
 use Rattle.numa_huge.specs.Huge.{huge_at, on_node, pages_in as pages_in_span}
 use Rattle.numa_maps.specs.Listing.{huge_line}
@@ -11,8 +11,8 @@ use Rattle.numa_run.proofs.listing.say_huge_range.Goals as goal
 
 pub total-requires : goal.total-requires
 total-requires g c node small =
-    let few = count-le (λ page. on_node node (huge_at c.args.huge.now.runs page)) c.huge_span-span.result.first
-    c.huge_span-span.result.pages in
+    let few = count-le (λ page. on_node node (huge_at c.args.huge.now.runs page))
+    c.huge_span-span.result.first c.huge_span-span.result.pages in
     omega (
       arith,
       c.counts_in-counts.ensures.on node small,
@@ -32,6 +32,6 @@ returns g c = λ memory lies.
     said_same g.W.Write.contents c.args.output.now c.say_huge.new.output _ _
     (ap (λ policy. huge_line policy range.first c.total.result
     (λ node. slice_index c.counts_in-counts.result.on node)) c.policy_at-policy.ensures.policy
-    ∙ huge-same (policy_in c.args.space.now c.args.task range.first) range.first c.total.result (sum_below 256 (huge_in memory range))
-    (λ node. slice_index c.counts_in-counts.result.on node) (huge_in memory range)
+    ∙ huge-same (policy_in c.args.space.now c.args.task range.first) range.first c.total.result
+    (sum_below 256 (huge_in memory range)) (λ node. slice_index c.counts_in-counts.result.on node) (huge_in memory range)
     (c.total.ensures.sum ∙ sums) each) c.say_huge.ensures

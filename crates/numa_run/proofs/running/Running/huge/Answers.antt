@@ -1,4 +1,3 @@
-use Rattle.std.proofs.Common.{◌∙◌}
 use Rattle.numa_run.proofs.Faulted.{huge-begun, huge-plain}
 use Rattle.numa_run.proofs.running.Running.huge.Goals as goal
 

@@ -1,4 +1,3 @@
-use Rattle.std.proofs.Common.{◌∙◌}
 use Rattle.numa_run.proofs.Fitting.{lacked-early, lacked-late, lacked-starved}
 use Rattle.numa_run.proofs.running.Running.lack_pages.Goals as goal
 

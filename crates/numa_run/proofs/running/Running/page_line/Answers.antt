@@ -44,6 +44,7 @@ returns-in-MemoryMigrate c =
     rw c.in-MemoryMigrate.is
     (served_here c.args.self.now c.reply_of-in-MemoryMigrate.new.self _
     c.reply_of-in-MemoryMigrate.result
-    (λ lack machine state. changed lack machine state (page.MemoryMigrate c.in-MemoryMigrate.field-0))
+    (λ lack machine state. changed lack machine state
+    (page.MemoryMigrate c.in-MemoryMigrate.field-0))
     (rw c.in-MemoryMigrate.is at c.reply_of-in-MemoryMigrate.ensures.serves)
     (λ lack state. refl))

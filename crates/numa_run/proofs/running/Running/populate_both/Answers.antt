@@ -24,8 +24,8 @@ returns-in-Ok c =
     both-done c.args.self.now c.args.said.now.start c.args.said.now.length
     c.args.said.now.task c.args.said.now.cpu c.requires c.in-Some.huge c.in-Some.is
     c.in-Some-pages.kept
-    (begun-pages c.args.self.now.pages c.begins_starved.new.state c.in-Some-pages.kept c.in-Some-pages.is
-    (c.begins_starved.ensures.kept c.if-begins_starved.false))
+    (begun-pages c.args.self.now.pages c.begins_starved.new.state c.in-Some-pages.kept
+    c.in-Some-pages.is (c.begins_starved.ensures.kept c.if-begins_starved.false))
     c.touch_both.new.pages c.touch_both.new.huge c.touch_both.result
     (rw c.space.ensures.space at c.touch_both.ensures) c.in-Ok.is
 
@@ -34,7 +34,7 @@ returns-in-Err c =
     both-refused c.args.self.now c.args.said.now.start c.args.said.now.length
     c.args.said.now.task c.args.said.now.cpu c.requires c.in-Some.huge c.in-Some.is
     c.in-Some-pages.kept
-    (begun-pages c.args.self.now.pages c.begins_starved.new.state c.in-Some-pages.kept c.in-Some-pages.is
-    (c.begins_starved.ensures.kept c.if-begins_starved.false))
+    (begun-pages c.args.self.now.pages c.begins_starved.new.state c.in-Some-pages.kept
+    c.in-Some-pages.is (c.begins_starved.ensures.kept c.if-begins_starved.false))
     c.touch_both.new.pages c.touch_both.new.huge c.touch_both.result
     (rw c.space.ensures.space at c.touch_both.ensures) c.in-Err.why c.in-Err.is

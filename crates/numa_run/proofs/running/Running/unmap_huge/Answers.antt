@@ -1,4 +1,4 @@
-use Rattle.std.proofs.Common.{Option, ◌∙◌}
+use Rattle.std.proofs.Common.{Option}
 use Rattle.std.specs.Prelude.{true}
 use Rattle.numa_huge.specs.Moves.{HugeMemory}
 use Rattle.numa_page_state.specs.Huge.{has_huge_in}
@@ -27,10 +27,11 @@ pub returns-in-Err-without_span : goal.returns-in-Err-without_span
 returns-in-Err-without_span c =
     rw c.command_reply-in-Err-without_span.ensures
     (both-denied c.args.self.now c.in-Some.kept c.in-Some.is c.args.start c.args.length c.requires
-    c.in-Ok.huge c.in-Ok.ensures.ok c.runs.ensures.few c.in-Err-without_span.why c.in-Err-without_span.ensures)
+    c.in-Ok.huge c.in-Ok.ensures.ok c.runs.ensures.few c.in-Err-without_span.why
+    c.in-Err-without_span.ensures)
 
 pub returns : goal.returns
 returns c =
     both-serves c.args.self.now c.in-Some.kept c.in-Some.is c.args.start c.args.length c.requires
-    c.in-Ok.huge c.in-Ok.ensures.ok c.unmap_both.new.self c.unmap_both.result c.in-Ok-without_span.small
-    c.in-Ok-without_span.ensures c.unmap_both.ensures
+    c.in-Ok.huge c.in-Ok.ensures.ok c.unmap_both.new.self c.unmap_both.result
+    c.in-Ok-without_span.small c.in-Ok-without_span.ensures c.unmap_both.ensures
