@@ -197,7 +197,7 @@ fn touch_both(
 fn forget_arrived(huge: &mut Option<HugePages>)
     ensures { (memory : Option HugeMemory) → StandsForHuge huge.old memory
         → StandsForHuge huge.new
-            (option_map (λ (kept : HugeMemory). record kept { arrived = None }) memory) }
+        (option_map (λ (kept : HugeMemory). record kept { arrived = None }) memory) }
 {
     if let Some(kept) = huge {
         kept.arrived = None;
