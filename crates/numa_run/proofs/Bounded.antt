@@ -97,7 +97,8 @@ changed-keeps lack machine state said =
     let done = change_of lack (ground_of (process_on machine state)) said
     (record state.lying { begun = true }) in
     either-keeps (not state.lying.begun && is_starved lack) state
-    (with_reply (lack_reply said) state) (with_change state done) refl (answered-keeps state done.0 done.1)
+    (with_reply (lack_reply said) state) (with_change state done) refl
+    (answered-keeps state done.0 done.1)
 
 module _ (lack : Lack) (machine : Hardware) (state : State) where
   lying-keeps : (command : Command) (lying : Lying)

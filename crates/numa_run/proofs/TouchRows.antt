@@ -77,5 +77,6 @@ rooms-begin_nothing = refl
 
 rooms-of_a_node : answer_to Starved (after_bytes Enough bound (codes "room 1 5")) (codes "room")
     ≡ codes "room N1=5\n"
-unfolding line_of keyword_of number_of numeral_of in_64_bits digits outcome_of bound world rooms_text
+unfolding line_of keyword_of number_of numeral_of in_64_bits digits outcome_of bound world
+    rooms_text
 rooms-of_a_node = refl

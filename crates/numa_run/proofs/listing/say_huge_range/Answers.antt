@@ -33,5 +33,6 @@ returns g c = λ memory lies.
     (ap (λ policy. huge_line policy range.first c.total.result
     (λ node. slice_index c.counts_in-counts.result.on node)) c.policy_at-policy.ensures.policy
     ∙ huge-same (policy_in c.args.space.now c.args.task range.first) range.first c.total.result
-    (sum_below 256 (huge_in memory range)) (λ node. slice_index c.counts_in-counts.result.on node) (huge_in memory range)
+    (sum_below 256 (huge_in memory range)) (λ node. slice_index c.counts_in-counts.result.on node)
+    (huge_in memory range)
     (c.total.ensures.sum ∙ sums) each) c.say_huge.ensures

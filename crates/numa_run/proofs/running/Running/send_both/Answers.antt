@@ -8,8 +8,8 @@ pub returns-in-Ok-Some : goal.returns-in-Ok-Some
 returns-in-Ok-Some c = λ state stands found.
     let walks = walk-found c.args.self.now c.args.said.now c.args.words.now c.in-Some.kept
     c.in-Some.is c.huge_sent_from.result c.space-space.result.now c.space-space.ensures.space
-    c.toucher_of-toucher.result c.toucher_of-toucher.ensures c.huge_sent_from.ensures.sent state stands
-    c.args.sent found in
+    c.toucher_of-toucher.result c.toucher_of-toucher.ensures c.huge_sent_from.ensures.sent state
+    stands c.args.sent found in
     c.settle_both.ensures state stands found
     (subst (λ r. IfOk r (λ done. IsSomeAnd done (λ done. IsWalk (walk_of c.args.self.now
     c.args.said.now c.args.words.now state) done.0 done.1)))
@@ -19,8 +19,8 @@ pub returns-in-Ok-None : goal.returns-in-Ok-None
 returns-in-Ok-None c = λ state stands found.
     let walks = walk-found c.args.self.now c.args.said.now c.args.words.now c.in-Some.kept
     c.in-Some.is c.huge_sent_from.result c.space-space.result.now c.space-space.ensures.space
-    c.toucher_of-toucher.result c.toucher_of-toucher.ensures c.huge_sent_from.ensures.sent state stands
-    c.args.sent found in
+    c.toucher_of-toucher.result c.toucher_of-toucher.ensures c.huge_sent_from.ensures.sent state
+    stands c.args.sent found in
     absurd (subst (λ r. IfOk r (λ done. IsSomeAnd done (λ done. IsWalk (walk_of c.args.self.now
     c.args.said.now c.args.words.now state) done.0 done.1)))
     (c.in-Ok-None.is ∙ ap Ok c.in-Ok-None.field-0-is) walks)
