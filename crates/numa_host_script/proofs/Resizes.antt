@@ -21,10 +21,8 @@ use Rattle.numa_page_state.specs.Huge.{resizing_nodes}
 use Rattle.numa_page_state.specs.Outcomes.{Enough}
 use Rattle.numa_page_state.specs.Pooling.{pool_refusal}
 use Rattle.numa_page_state.proofs.Nodes.{none-above}
-use Rattle.numa_script.specs.Lines.{alone}
 use Rattle.numa_script.specs.declared.huge_line.HugeLine.{HugeLine}
 use Rattle.numa_script.specs.declared.huge_line.HugeLine.TheVariants as huge
-use Rattle.numa_script.specs.declared.line.Line.TheVariants as line
 use Rattle.numa_script.specs.declared.line.ScriptLine.{ScriptLine}
 use Rattle.numa_script.specs.declared.reply.Reply.TheVariants as reply
 use Rattle.numa_run.specs.HugeLines.{most_said}
@@ -34,6 +32,7 @@ use Rattle.numa_run.proofs.Resized.{free-of, why-of}
 use Rattle.numa_host_huge.specs.Kept.{HugeKept}
 use Rattle.numa_host_huge.specs.Sharing.{Sharing, with_pools}
 use Rattle.numa_host_huge.specs.Standing.{HugeLies}
+use Rattle.numa_host_script.specs.Acting.{reply_taken, taken_by}
 use Rattle.numa_host_script.specs.Hosts.{Hosting, HostLack, Outcome, plenty, with_reply}
 use Rattle.numa_host_script.specs.Judged.{refused_by}
 use Rattle.numa_host_script.specs.Pooling.{allowed_at, huge_there, huge_where, own_huge_outcome}
@@ -89,6 +88,20 @@ comes-taken old new said (taken.Moved process) none comes = absurd comes
 comes-taken old new said taken.MovedAll none comes = absurd comes
 comes-taken old new said taken.Rooms none comes = absurd comes
 comes-taken old new said (taken.Arrived process) none comes = absurd comes
+
+-- a reply, or what the pools have, is all that it comes to
+pub comes-told : (old new : RunningHost) (found : HostTaken)
+    (outcome : HostLack → Hosting → Outcome) → ComesTo old found new outcome
+    → ComesTo old (taken_by (reply_taken found)) new outcome
+comes-told old new (taken.Reply answer) outcome comes = comes
+comes-told old new taken.Pools outcome comes = comes
+comes-told old new (taken.Own found) outcome comes = absurd comes
+comes-told old new (taken.Asked process asked) outcome comes = absurd comes
+comes-told old new (taken.Listed process task) outcome comes = absurd comes
+comes-told old new (taken.Moved process) outcome comes = absurd comes
+comes-told old new taken.MovedAll outcome comes = absurd comes
+comes-told old new taken.Rooms outcome comes = absurd comes
+comes-told old new (taken.Arrived process) outcome comes = absurd comes
 
 -- ---- pools that are resized
 
@@ -302,35 +315,33 @@ own-other (huge.Fault task address cpu) shown resized_all resized_one at = refl
 pub own-nothing : (running : RunningHost) (said : HugeLine) → (said ≡ huge.Pools → ⊥)
     → ((pages : ℕ) → said ≡ huge.Resize pages → ⊥)
     → ((node pages : ℕ) → said ≡ huge.ResizeNode node pages → ⊥)
-    → Takes running (alone (line.Huge said)) (taken.Reply reply.BadState) running
+    → ComesTo running (taken.Reply reply.BadState) running (λ lack at. own_huge_outcome at said)
 own-nothing running said shown resized_all resized_one =
     still running reply.BadState (λ lack at. own_huge_outcome at said) plenty
     (λ at stands. own-other said shown resized_all resized_one at)
 
 pub own-pools : (running : RunningHost)
-    → Takes running (alone (line.Huge huge.Pools)) taken.Pools running
-own-pools running = λ at stands. (plenty, (refl, refl), stands)
+    → ComesTo running taken.Pools running (λ lack at. own_huge_outcome at huge.Pools)
+own-pools running = λ at stands. (plenty, refl, stands)
 
 -- who writes is allowed all nodes with memory
 pub own-resizes : (old new : RunningHost) (found : HostTaken) (memory pages : ℕ)
     → memory ≡ old.host.blank.machine.memory
     → ComesTo old found new (λ lack at. resize_outcome memory memory pages at)
-    → Takes old (alone (line.Huge (huge.Resize pages))) found new
+    → ComesTo old found new (λ lack at. own_huge_outcome at (huge.Resize pages))
 own-resizes old new found memory pages has comes =
-    comes-taken old new (alone (line.Huge (huge.Resize pages))) found (λ lack at. refl)
-    (comes-by old new found (λ lack at. resize_outcome memory memory pages at)
+    comes-by old new found (λ lack at. resize_outcome memory memory pages at)
     (λ lack at. own_huge_outcome at (huge.Resize pages))
     (λ at stands lack i. resize_outcome
     (sym (has ∙ ap (λ (m : Hardware). m.memory) stands.machine) i)
-    (sym (has ∙ ap (λ (m : Hardware). m.memory) stands.machine) i) pages at) comes)
+    (sym (has ∙ ap (λ (m : Hardware). m.memory) stands.machine) i) pages at) comes
 
 pub own-resizes_node : (old new : RunningHost) (found : HostTaken) (memory node pages : ℕ)
     → memory ≡ old.host.blank.machine.memory
     → ComesTo old found new (λ lack at. resize_node_outcome node memory pages at)
-    → Takes old (alone (line.Huge (huge.ResizeNode node pages))) found new
+    → ComesTo old found new (λ lack at. own_huge_outcome at (huge.ResizeNode node pages))
 own-resizes_node old new found memory node pages has comes =
-    comes-taken old new (alone (line.Huge (huge.ResizeNode node pages))) found (λ lack at. refl)
-    (comes-by old new found (λ lack at. resize_node_outcome node memory pages at)
+    comes-by old new found (λ lack at. resize_node_outcome node memory pages at)
     (λ lack at. own_huge_outcome at (huge.ResizeNode node pages))
     (λ at stands lack i. resize_node_outcome node
-    (sym (has ∙ ap (λ (m : Hardware). m.memory) stands.machine) i) pages at) comes)
+    (sym (has ∙ ap (λ (m : Hardware). m.memory) stands.machine) i) pages at) comes

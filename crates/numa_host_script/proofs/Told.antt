@@ -37,6 +37,7 @@ use Rattle.numa_run.proofs.Flows.{added-told}
 use Rattle.numa_run.proofs.Telling.{arrival-told, both-told, rooms-alike}
 use Rattle.numa_run.specs.declared.script.Script.{Script}
 use Rattle.numa_space.specs.Limited.{Bounds}
+use Rattle.numa_host_script.specs.Acting.{TellsHuge}
 use Rattle.numa_host_script.specs.Hosts.{Hosting}
 use Rattle.numa_host_script.specs.Paging.{arrived_text, memory_at, moved_text, pages_at}
 use Rattle.numa_host_script.specs.Sessions.{Hosted, Session, Single}
@@ -140,6 +141,20 @@ huge-arrived None process at none = ap (option_map (lent at.pools)) none
 huge-arrived (Some kept) process at found =
     subst (λ (o : Option HugeHome). IsSomeAnd (option_map (lent at.pools) o)
     (λ memory. HaveArrived kept.now.arrived memory.arrived)) (sym found.1) found.2.1.arrived
+
+-- and all of it
+pub huge-kept : (held : Option (Bor HugePages)) (process : ℕ) (at : Sharing)
+    → FindsHuge held process at
+    → MatchOption held (memory_in process at ≡ None) (λ kept. IsSomeAnd (memory_in process at)
+    (TellsHuge kept.now))
+huge-kept None process at none = ap (option_map (lent at.pools)) none
+huge-kept (Some kept) process at found =
+    subst (λ (o : Option HugeHome). IsSomeAnd (option_map (lent at.pools) o)
+    (TellsHuge kept.now)) (sym found.1) (record {
+      spots = ap (λ (p : HugeLying). p.spots) found.2.1.pages;
+      told = found.2.1.told;
+      arrived = found.2.1.arrived;
+    })
 
 -- what first touches of pages of both sizes did, said
 pub arrived-some : (version : ℕ) (done : Arrived) (arrival : Arrival) (huge : HugeArrived)

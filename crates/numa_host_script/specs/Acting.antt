@@ -1,9 +1,14 @@
 -- What a host with pages is told by calls, without a line of text: each as the line that says it.
-use Rattle.std.specs.Prelude.{◌≡◌, ◌≢◌, ℕ, Bool, true, false, Ok, Err, List, length}
+use Rattle.std.specs.Prelude.{◌≡◌, ◌≢◌, ℕ, Bool, true, false, Option, Some, None, Ok, Err, List}
+use Rattle.std.specs.Prelude.{length}
 use Rattle.numa_host.specs.Processes.{is_there, members_of}
 use Rattle.numa_host.specs.Standing.{HostMayNeedRoom, HostState, HostStandsFor, IsHostApplied}
 use Rattle.numa_host_pages.specs.Homes.{HostLying, lent}
 use Rattle.numa_host_pages.specs.Standing.{HostLies}
+use Rattle.numa_huge.specs.Huge.{huge_at}
+use Rattle.numa_huge.specs.Moves.{HugeMemory}
+use Rattle.numa_huge.specs.Tallies.{HasTold, HaveArrived}
+use Rattle.numa_huge.specs.declared.pages.HugePages.{HugePages}
 use Rattle.numa_page_state.specs.Lying.{Lying, nothing}
 use Rattle.numa_page_state.specs.Outcomes.{Lack}
 use Rattle.numa_mode.specs.Policy.{Specification}
@@ -24,6 +29,8 @@ use Rattle.numa_script.specs.declared.reply.Reply.TheVariants as reply
 use Rattle.numa_host_script.specs.Hosts.{Hosting, HostLack, Outcome, command_outcome}
 use Rattle.numa_host_script.specs.Paging.{bound_outcome, obeyed, page_where}
 use Rattle.numa_host_script.specs.declared.running.RunningHost.{RunningHost}
+use Rattle.numa_host_script.specs.declared.taking.HostTaken.{HostTaken}
+use Rattle.numa_host_script.specs.declared.taking.HostTaken.TheVariants as taken
 
 -- ---- copies
 
@@ -100,3 +107,22 @@ bound_to lack at process start bytes spec pages =
 -- no page of a process lies anywhere yet
 abbrev pub IsUntouched : HostLying → Lying → Type 0
 IsUntouched at lying = lying ≡ lent at.room at.follows nothing
+
+-- ---- pools and pages of 2 MiB
+
+-- the reply of a line that was taken, if it has one
+abbrev pub reply_taken : HostTaken → Option Reply
+reply_taken (taken.Reply answer) = Some answer
+reply_taken _ = None
+
+-- what a line about pools came to: its reply, or what the pools have then
+abbrev pub taken_by : Option Reply → HostTaken
+taken_by (Some answer) = taken.Reply answer
+taken_by None = taken.Pools
+
+-- what is kept of pages of 2 MiB: where they lie, and what the last move and the last first touches
+-- did to them
+pub record TellsHuge (kept : HugePages) (memory : HugeMemory) : Type 0 where
+  pub spots : huge_at kept.places.runs ≡ memory.pages.spots
+  pub told : HasTold kept.last memory.told
+  pub arrived : HaveArrived kept.arrived memory.arrived

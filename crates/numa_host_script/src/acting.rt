@@ -1,25 +1,40 @@
 //! What a host with pages is told by calls: each does what the line that says it does.
-ghost use Rattle.std.specs.Prelude.{◌≡◌, IfOk, MatchOption, true};
+ghost use Rattle.std.specs.Prelude.{◌≡◌, IfOk, IsSomeAnd, MatchOption, None, true};
 ghost use Rattle.numa_host_pages.specs.Homes.{HostLying, empty_host, with_room};
 ghost use Rattle.numa_host_pages.specs.Standing.{HostLies, LiesApart};
-ghost use Rattle.numa_host_script.specs.Acting.{AppliesTo, IsCopyOf, IsUntouched};
-ghost use Rattle.numa_host_script.specs.Acting.{bound_to, changed_outcome, is_change, told_outcome};
+ghost use Rattle.numa_host_script.specs.Acting.{AppliesTo, IsCopyOf, IsUntouched, TellsHuge};
+ghost use Rattle.numa_host_script.specs.Acting.{bound_to, changed_outcome, is_change, taken_by};
+ghost use Rattle.numa_host_script.specs.Acting.{reply_taken, told_outcome};
 ghost use Rattle.numa_host_script.specs.Hosts.{Hosting};
-ghost use Rattle.numa_host_script.specs.Paging.{pages_at};
-ghost use Rattle.numa_host_script.specs.Standing.{Changes, Replies, RunsAs};
+ghost use Rattle.numa_host_script.specs.Paging.{memory_at, pages_at};
+ghost use Rattle.numa_host_script.specs.Pooling.{huge_outcome, own_huge_outcome, pools_at};
+ghost use Rattle.numa_host_script.specs.Standing.{Changes, ComesTo, Replies, RunsAs};
 
 use crate::binding::bind;
 use crate::paging::{change_in, obeyed};
+use crate::pooling::{huge_in, own_huge};
 use crate::running::RunningHost;
-use crate::taking::obey_host;
+use crate::taking::{HostTaken, obey_host};
 use numa_host::Host;
 use numa_host_pages::HostPages;
+use numa_huge::HugePages;
 use numa_machine::NoMemory;
 use numa_mode::PolicySpec;
 use numa_page_state::PageState;
+use numa_pools::Pools;
 use numa_requests::{HostCommand, PlacedRefusal};
-use numa_script::{BoundPages, PageLine, Reply};
+use numa_script::{BoundPages, HugeLine, PageLine, Reply};
 use std::alloc::Global;
+
+/// The reply of a line that was taken, if it has one; the others show what is.
+fn reply_taken(taken: &HostTaken) -> Option<Reply>
+    ensures { result ≡ reply_taken taken.now }
+{
+    match taken {
+        HostTaken::Reply(reply) => Some(*reply),
+        _ => None,
+    }
+}
 
 impl RunningHost {
     /// A host of whose processes no page lies anywhere; no node ever fills, and pages follow the
@@ -100,6 +115,26 @@ impl RunningHost {
         bind(self, alloc, process, start, length, &Ok(spec), pages)
     }
 
+    /// Carries out a line about pools and pages of 2 MiB, or a first touch, that a process is told,
+    /// and returns its reply; none where pools have so many pages now.
+    pub fn huge(&mut self, alloc: Global, process: u32, line: &HugeLine) -> Option<Reply>
+        ensures { ComesTo self.old (taken_by result) self.new
+            (λ lack at. huge_outcome lack.lacked at process line.now) }
+    {
+        let taken = huge_in(self, alloc, process, line);
+        reply_taken(&taken)
+    }
+
+    /// The same of a line that no process is told: whoever resizes pools is allowed all nodes with
+    /// memory.
+    pub fn own_huge(&mut self, line: &HugeLine) -> Option<Reply>
+        ensures { ComesTo self.old (taken_by result) self.new
+            (λ lack at. own_huge_outcome at line.now) }
+    {
+        let taken = own_huge(self, line);
+        reply_taken(&taken)
+    }
+
     /// Says how many more pages a node takes from now on, whichever process they are of; 2^64 - 1
     /// if it never fills.
     ///
@@ -122,5 +157,20 @@ impl RunningHost {
             (λ kept. LiesApart kept.now (pages_at at process)) }
     {
         self.pages.pages_of(process)
+    }
+    /// What is kept of the pages of 2 MiB of a process, once it mapped some that come from pools.
+    pub fn huge_there(&self, process: u32) -> Option<&HugePages>
+        ensures { (at : Hosting) → RunsAs self.now at
+            → MatchOption result (memory_at at process ≡ None)
+            (λ kept. IsSomeAnd (memory_at at process) (TellsHuge kept.now)) }
+    {
+        self.pages.huge.pages_of(process)
+    }
+
+    /// The pools of pages of 2 MiB, which all processes share.
+    pub fn pools(&self) -> &Pools
+        ensures { (at : Hosting) → RunsAs self.now at → result.now ≡ pools_at at }
+    {
+        self.pages.huge.pools()
     }
 }

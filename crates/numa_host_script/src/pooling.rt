@@ -5,17 +5,16 @@ ghost use Rattle.numa_host_huge.specs.Standing.{CanBegin};
 ghost use Rattle.numa_host_pages.specs.Homes.{HostLying, lent, pages_in, with_pages};
 ghost use Rattle.numa_host_pages.specs.Standing.{HostLies};
 ghost use Rattle.numa_host_script.specs.Pooling.{fitting_outcome, huge_outcome, lacking_outcome};
-ghost use Rattle.numa_host_script.specs.Pooling.{map_outcome, resize_node_outcome};
-ghost use Rattle.numa_host_script.specs.Pooling.{resize_outcome, small_faulted};
+ghost use Rattle.numa_host_script.specs.Pooling.{map_outcome, own_huge_outcome};
+ghost use Rattle.numa_host_script.specs.Pooling.{resize_node_outcome, resize_outcome};
+ghost use Rattle.numa_host_script.specs.Pooling.{small_faulted};
 ghost use Rattle.numa_host_script.specs.Standing.{ComesTo, FaultsSo, MapsMade, Replies};
-ghost use Rattle.numa_host_script.specs.Standing.{RepliesThere, Takes, told};
+ghost use Rattle.numa_host_script.specs.Standing.{RepliesThere};
 ghost use Rattle.numa_page_state.specs.Lying.{Lying, ground_in};
 ghost use Rattle.numa_page_state.specs.Outcomes.{Lack};
 ghost use Rattle.numa_page_state.specs.Standing.{LiesAs};
 ghost use Rattle.numa_pools.specs.Pools.{unreserved};
-ghost use Rattle.numa_script.specs.Lines.{alone};
 ghost use Rattle.numa_script.specs.declared.huge_line.HugeLine.{HugeLine};
-ghost use Rattle.numa_script.specs.declared.line.Line.{Line};
 
 use crate::binding::takes_more;
 use crate::paging::{obey_in, pages_reply};
@@ -340,7 +339,8 @@ pub(crate) fn huge_in(
     process: u32,
     said: &HugeLine,
 ) -> HostTaken
-    ensures { Takes running.old (told process (Line.Huge said.now)) result running.new }
+    ensures { ComesTo running.old result running.new
+        (λ lack at. huge_outcome lack.lacked at process said.now) }
 {
     match said {
         HugeLine::Pools => HostTaken::Reply(Reply::BadWords),
@@ -372,7 +372,7 @@ pub(crate) fn huge_in(
 /// Carries out such a line that no process is told.
 #[inline(never)]
 pub(crate) fn own_huge(running: &mut RunningHost, said: &HugeLine) -> HostTaken
-    ensures { Takes running.old (alone (Line.Huge said.now)) result running.new }
+    ensures { ComesTo running.old result running.new (λ lack at. own_huge_outcome at said.now) }
 {
     let memory = running.host.machine().memory();
     match said {

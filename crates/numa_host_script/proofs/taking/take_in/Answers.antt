@@ -1,3 +1,7 @@
+use Rattle.std.proofs.Common.{refl}
+use Rattle.numa_script.specs.declared.line.Line.TheVariants as line
+use Rattle.numa_host_script.specs.Standing.{told}
+use Rattle.numa_host_script.proofs.Resizes.{comes-taken}
 use Rattle.numa_host_script.proofs.Taken.{asked-taken, in-nothing, listed-taken}
 use Rattle.numa_host_script.proofs.taking.take_in.Goals as goal
 
@@ -22,7 +26,11 @@ pub returns-in-Bind : goal.returns-in-Bind
 returns-in-Bind c = rw c.in-Bind.is c.bind.ensures
 
 pub returns-in-Huge : goal.returns-in-Huge
-returns-in-Huge c = rw c.in-Huge.is c.huge_in.ensures
+returns-in-Huge c =
+    rw c.in-Huge.is
+    (comes-taken c.args.running.now c.huge_in.new.running
+    (told c.args.process (line.Huge c.in-Huge.said)) c.huge_in.result (λ lack at. refl)
+    c.huge_in.ensures)
 
 pub returns-in_default : goal.returns-in_default
 returns-in_default c =

@@ -1,4 +1,7 @@
-use Rattle.std.proofs.Common.{Ok}
+use Rattle.std.proofs.Common.{Ok, refl}
+use Rattle.numa_script.specs.Lines.{alone}
+use Rattle.numa_script.specs.declared.line.Line.TheVariants as line
+use Rattle.numa_host_script.proofs.Resizes.{comes-taken}
 use Rattle.numa_host_script.proofs.Taken.{is-other, own-taken}
 use Rattle.numa_host_script.proofs.taking.take_own.Goals as goal
 
@@ -11,7 +14,10 @@ returns-in-Err c =
     (rw (c.in-Pages.is, c.in-Err.is) tt) c.reply_own.ensures
 
 pub returns-in-Huge : goal.returns-in-Huge
-returns-in-Huge c = rw c.in-Huge.is c.own_huge.ensures
+returns-in-Huge c =
+    rw c.in-Huge.is
+    (comes-taken c.args.running.now c.own_huge.new.running (alone (line.Huge c.in-Huge.said))
+    c.own_huge.result (λ lack at. refl) c.own_huge.ensures)
 
 pub returns-in_default : goal.returns-in_default
 returns-in_default c =
