@@ -1,6 +1,7 @@
 //! Running scripts.
 ghost use Rattle.std.specs.Prelude.{◌≡◌, ◌⊎◌, ℕ, Option, None, Some, Ok, MatchOption, false};
 ghost use Rattle.std.specs.Prelude.{is_some};
+ghost use Rattle.numa_huge.specs.Tallies.{StandsForHuge};
 ghost use Rattle.numa_machine.specs.Machine.{Hardware};
 ghost use Rattle.numa_page_state.specs.Lying.{nothing};
 ghost use Rattle.numa_page_state.specs.Standing.{LiesAs};
@@ -13,6 +14,7 @@ use crate::build::build;
 use crate::running::{Running, Taken};
 use crate::settings::Settings;
 use numa_core::Core;
+use numa_huge::HugePages;
 use numa_lines::{Serve, Watched};
 use numa_machine::{MachineFault, Rules};
 use numa_maps::Resident;
@@ -96,6 +98,16 @@ impl Script {
     {
         let running = self.running.as_deref()?;
         running.pages.as_ref()
+    }
+
+    /// The pages of 2 MiB with the pools that they come from, once a line is about them.
+    pub fn huge(&self) -> Option<&HugePages>
+        ensures { (state : State) → ScriptStandsFor self.now state
+            → MatchOption result ((state.machine ≡ None) ⊎ StandsForHuge None state.huge)
+            (λ kept. StandsForHuge (Some kept.now) state.huge) }
+    {
+        let running = self.running.as_deref()?;
+        running.huge.as_ref()
     }
 
     /// Whether pages of 2 MiB are kept, as a line said that is about them.
