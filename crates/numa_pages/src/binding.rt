@@ -35,10 +35,15 @@ pub(crate) fn bound_of(sent: &Sending, flows: &Flows) -> Bound
 pub(crate) fn command_of(said: &Rebinding) -> Command
     ensures { result ≡ command_of said.now }
 {
+    let Rebinding {
+        start,
+        length,
+        spec,
+    } = *said;
     Command::Mbind {
-        start: said.start,
-        length: said.length,
-        spec: said.spec,
+        start,
+        length,
+        spec,
     }
 }
 

@@ -107,18 +107,18 @@ impl Pages {
         self.state.placed()
     }
 
-    /// Its pages of 2 MiB, with the pools that they come from.
-    pub fn huge(&self) -> &HugePlaces
-        ensures { result.now ≡ self.now.huge }
-    {
-        &self.huge
-    }
-
     /// The pools of pages of 2 MiB.
     pub fn pools(&self) -> &Pools
         ensures { result.now ≡ self.now.huge.pools }
     {
         self.huge.pools()
+    }
+
+    /// Its pages of 2 MiB, with the pools that they come from.
+    pub fn huge(&self) -> &HugePlaces
+        ensures { result.now ≡ self.now.huge }
+    {
+        &self.huge
     }
 
     /// The node on which a page lies, if it lies on one: a page of 4 KiB, or the one of 2 MiB of
