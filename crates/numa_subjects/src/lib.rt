@@ -11,6 +11,7 @@ mod ended;
 mod faults;
 mod halt;
 mod page_place;
+mod sizes;
 mod subject;
 
 pub use added::Added;
@@ -18,4 +19,5 @@ pub use ended::{Ended, Twin};
 pub use faults::tells_fault;
 pub use halt::{Halt, NOTHING_SERVED};
 pub use page_place::PagePlace;
+pub use sizes::maps_huge;
 pub use subject::{InGroup, Subject, differ, host_in, member, nodes_with, space_in};

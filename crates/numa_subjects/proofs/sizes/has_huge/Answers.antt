@@ -1,7 +1,7 @@
 use Rattle.std.proofs.Common.{◌≡◌, ◌∙◌, ap, sym, refl}
 use Rattle.std.specs.List.{list_any}
 use Rattle.numa_machine.specs.Sizes.{is_part}
-use Rattle.numa_play.proofs.huge.has_huge.Goals as goal
+use Rattle.numa_subjects.proofs.sizes.has_huge.Goals as goal
 
 pub loop-range-init : goal.loop-range-init
 loop-range-init c = ap (list_any (λ range. is_part range.index))
