@@ -86,8 +86,8 @@ fn span_detail(space: &Space, pages: LinePages, refusal: Refusal) -> Detail {
     }
 }
 
-/// What isn't aligned of a span that begins at an address: that, or a border, which is inside a page
-/// of 2 MiB.
+/// What isn't aligned of a span that begins at an address: that, or a border, which is inside a
+/// page of 2 MiB.
 fn unaligned_detail(start: u64) -> Detail {
     if start.is_multiple_of(PAGE) {
         return Detail::HugeBorder;
@@ -332,7 +332,7 @@ pub(crate) fn move_detail(space: &Space, said: &Line<'_>, refusal: MoveRefusal) 
 }
 
 /// The details of the refusal of a line about pages of 2 MiB, or about a first touch.
-fn huge_detail(space: &Space, said: &Line<'_>, refusal: HugeRefusal) -> Detail {
+pub(crate) fn huge_detail(space: &Space, said: &Line<'_>, refusal: HugeRefusal) -> Detail {
     match (refusal, said) {
         (HugeRefusal::NoSuchNode | HugeRefusal::BadCpu, _) => last_node(space),
         (HugeRefusal::Unmapped, Line::Huge(HugeLine::Fault { address, .. })) => {

@@ -14,7 +14,8 @@ pub enum Detail {
     None,
     /// Why the line is malformed, and where.
     Malformed(Malformed),
-    /// The same of an `mbind` with words after its policy, or of a `map` with some after its offset.
+    /// The same of an `mbind` with words after its policy, or of a `map` with some after its
+    /// offset.
     MalformedMore(Malformed),
     /// Only a host's script has the line, and this isn't one.
     NoHost,
@@ -46,7 +47,7 @@ pub enum Detail {
     Count(u64),
     /// The nodes to be allowed have no memory.
     Mems,
-    /// A line `host` comes after the first command.
+    /// A line `host` comes after the first command, or the first `pool COUNT`.
     LateHost,
     /// The script is a host's already.
     HostReady,

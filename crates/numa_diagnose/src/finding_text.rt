@@ -298,7 +298,9 @@ fn detail_words(detail: Detail) -> &'static str {
     match detail {
         Detail::Malformed(_) | Detail::MalformedMore(_) => ": ",
         Detail::NoHost => ": only a host's script has this line; write host after machine",
-        Detail::LateHost => ": host comes after machine and before the first command",
+        Detail::LateHost => {
+            ": host comes after machine, before the first command and the first pool COUNT"
+        }
         Detail::HostReady => ": the script is a host's already; take the line out",
         Detail::NeedsProcess => ": in a host a line of one process follows in P; write that",
         Detail::NoWorkers => ": a host has no workers; they are for scripts of one process",

@@ -1,12 +1,15 @@
 //! Details of an error or a refusal in a host's script.
 use crate::bad_words::host_words;
 use crate::details::{
-    all_nodes, is_decimal_start, last_of, list_detail, move_detail, placed_detail, refusal_detail,
+    all_nodes, huge_detail, is_decimal_start, last_of, list_detail, move_detail, placed_detail,
+    refusal_detail,
 };
 use crate::finding::Detail;
 use numa_host::Host;
 use numa_mask::parts::first_place;
-use numa_requests::{CoreRefusal, HostCommand, HostRefusal, MoveRefusal, PlacedRefusal, Refusal};
+use numa_requests::{
+    CoreRefusal, HostCommand, HostRefusal, HugeRefusal, MoveRefusal, PlacedRefusal, Refusal,
+};
 use numa_script::{Line, Reply, ScriptLine, WordError};
 
 /// The details of a line that has no place where it stands.
@@ -79,6 +82,20 @@ fn moved_detail(host: &Host, said: &ScriptLine<'_>, refusal: MoveRefusal) -> Det
     match host.process(process) {
         Some(space) => in_host(move_detail(space, &said.line, refusal)),
         None => Detail::None,
+    }
+}
+
+/// The details of why a line about pages of 2 MiB, or about a first touch, is refused.
+fn huge_detail_in(host: &Host, said: &ScriptLine<'_>, refusal: HugeRefusal) -> Detail {
+    if let Some(process) = said.process {
+        return match host.process(process) {
+            Some(space) => huge_detail(space, &said.line, refusal),
+            None => Detail::None,
+        };
+    }
+    match refusal {
+        HugeRefusal::NoSuchNode => last_of(host.machine()),
+        _ => Detail::None,
     }
 }
 
@@ -170,6 +187,7 @@ pub(crate) fn host_detail(host: &Host, line: &[u8], said: &ScriptLine<'_>, fault
         Reply::Refused(cause) => in_detail(host, line, said, cause),
         Reply::PlacedRefused(refusal) => pages_detail(host, line, said, refusal),
         Reply::MoveRefused(refusal) => moved_detail(host, said, refusal),
+        Reply::HugeRefused(refusal) => huge_detail_in(host, said, refusal),
         _ => Detail::None,
     }
 }
