@@ -3,7 +3,7 @@ use crate::explanation::Explanation;
 use crate::rule::{OrderRule, WeightedTurn};
 use crate::scope::Scope;
 use crate::text::Text;
-use numa_machine::{Fallback, Machine, turn_at};
+use numa_machine::{Fallback, Machine, is_part, turn_at};
 use numa_mask::{NodeMask, list_text};
 use numa_mode::Record;
 use numa_requests::PAGE_BYTES;
@@ -29,7 +29,11 @@ fn put_range(text: &mut Text, said: &Explanation) {
         .saturating_add(range.pages)
         .saturating_mul(PAGE_BYTES);
     let last = range.index.saturating_add(range.pages.saturating_sub(1));
-    let form = ": its pages have the indexes $ to $, this one $";
+    let form = if is_part(said.index) {
+        ": its pages of 2 MiB have the indexes $ to $, this one $"
+    } else {
+        ": its pages have the indexes $ to $, this one $"
+    };
     text.put_hex("\nrange ", start);
     text.put_hex("-", end);
     let turns = [turn_at(range.index), turn_at(last), turn_at(said.index)];

@@ -3,7 +3,7 @@ use crate::explanation::Explanation;
 use crate::reason_text::{is_kernel_order, put_policy, put_sets};
 use crate::rule::OrderRule;
 use crate::text::Text;
-use numa_machine::{Machine, turn_at};
+use numa_machine::{Machine, is_part, turn_at};
 use numa_requests::PAGE_BYTES;
 use std::alloc::AllocError;
 
@@ -14,14 +14,17 @@ fn put_addresses(text: &mut Text, first: u64, pages: u64) {
     text.put_hex("-", end.saturating_mul(PAGE_BYTES));
 }
 
-/// Writes the first line: the pages of the stretch, and their indexes.
+/// Writes the first line: the pages of the stretch, and their indexes. Those of 2 MiB are counted
+/// in parts of 4 KiB, which have the index of their page.
 fn put_pages(text: &mut Text, said: &Explanation, pages: u64) {
     let last = said.index.saturating_add(pages.saturating_sub(1));
     put_addresses(text, said.page, pages);
-    text.put_form(
-        ": $ pages with the indexes $ to $",
-        &[pages, turn_at(said.index), turn_at(last)],
-    );
+    let form = if is_part(said.index) {
+        ": $ pages of 4 KiB, parts of those of 2 MiB with the indexes $ to $"
+    } else {
+        ": $ pages with the indexes $ to $"
+    };
+    text.put_form(form, &[pages, turn_at(said.index), turn_at(last)]);
 }
 
 /// Writes by which node's order nodes are sorted; `None` is the node whose turn it is.
