@@ -7,7 +7,7 @@ use numa_lines::RunFault;
 use numa_machine::{Fallback, Machine};
 use numa_mask::{NodeMask, list_text};
 use numa_sheets::{Format, Touch, VERSION, Written};
-use numa_subjects::{Added, Halt, InGroup, Subject};
+use numa_subjects::{Added, Halt, InGroup, Subject, maps_huge};
 use std::alloc::{AllocError, Global};
 
 /// The most nodes whose distances are told one by one.
@@ -31,6 +31,8 @@ pub struct About<'a> {
     pub touch: Option<Touch>,
     /// Whether pages that are there stay where they lie.
     pub stay: bool,
+    /// Whether it tells how pages of 2 MiB count.
+    pub tells_huge: bool,
     /// The lines that were added.
     pub added: Added<'a>,
 }
@@ -48,27 +50,22 @@ impl<'a> About<'a> {
             allowed,
             touch,
             stay: false,
+            tells_huge: false,
             added,
         }
     }
 
     /// The same where pages that are there stay where they lie, or else are touched as others.
     pub fn staying(self, stay: bool) -> About<'a> {
-        let About {
-            machine,
-            member,
-            allowed,
-            touch,
-            stay: _,
-            added,
-        } = self;
+        About { stay, ..self }
+    }
+
+    /// The same where the pages of what the answer is about are counted: it tells how those of
+    /// 2 MiB count, if there are some.
+    pub fn counting(self, subject: Subject<'_>) -> About<'a> {
         About {
-            machine,
-            member,
-            allowed,
-            touch,
-            stay,
-            added,
+            tells_huge: maps_huge(subject),
+            ..self
         }
     }
 }
@@ -187,6 +184,17 @@ fn put_touch(text: &mut Written, about: &About<'_>) {
     }
 }
 
+/// Writes how pages of 2 MiB count: as others if they are touched, and else not.
+fn put_huge(text: &mut Written, about: &About<'_>) {
+    if !about.tells_huge {
+        return;
+    }
+    text.put(match about.touch {
+        Some(_) => b"Each page of 2 MiB counts as 512 of 4 KiB, whatever pools have\n".as_slice(),
+        None => b"Pages of 2 MiB don't count\n",
+    });
+}
+
 /// The bytes of a line up to its first space, which counts too.
 fn word_length(line: &[u8]) -> usize {
     let mut length = 0usize;
@@ -278,6 +286,7 @@ fn rows_of(alloc: Global, about: &About<'_>) -> Result<Vec<u8>, AllocError> {
         put_member(&mut text, member);
     }
     put_touch(&mut text, about);
+    put_huge(&mut text, about);
     put_machine(&mut text, about.machine);
     put_distances(&mut text, about.machine);
     text.put(b"numaplan ");

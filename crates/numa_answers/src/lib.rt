@@ -4,7 +4,9 @@
 //! scripts with theirs in other ways than [`numa_lines::Expect`], and writes them anew.
 //! [`stretches_of`] tells by which rules pages go, and [`page_of`] makes a page to explore.
 //! [`text_of`] says why a page goes where it goes, and how a page that is there comes where it
-//! lies, and [`shown`] gives that a form. [`told_of`] adds to a picture or a page what it is of.
+//! lies, or what the pools have for it ([`Pooled`]), and [`shown`] gives that a form. [`with_pools`]
+//! adds to a prediction where pages of 2 MiB come from, and [`told_of`] to a picture or a page what
+//! it is of.
 //! [`reported`] and [`add_answer`] go on with a report, or with why there is none.
 #![tactic(auto)]
 
@@ -17,6 +19,7 @@ mod page;
 mod page_head;
 mod page_script;
 mod page_table;
+mod pooled;
 mod reason_picture;
 mod reason_table;
 mod reasons;
@@ -30,7 +33,8 @@ pub use about::{About, told_of};
 pub use answers::Answers;
 pub use comparing::{Comparing, Comparison, Updated};
 pub use page::{PageData, page_of, shared_answer, view_text};
-pub use reasons::{put_fields, shown, text_of};
+pub use pooled::{FromPools, Pooled, with_pools};
+pub use reasons::{Whereabouts, put_fields, shown, text_of};
 pub use residence::Residence;
 pub use stretches::{PageInterval, stretches_of};
 pub use telling::{add_answer, reported, shown_as};

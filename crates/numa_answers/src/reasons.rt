@@ -1,4 +1,5 @@
 //! Why a page goes where it goes, as text, JSON or a picture.
+use crate::pooled::{Pooled, put_pooled, put_pooled_object};
 use crate::reason_picture::picture_of;
 use crate::residence::{Residence, put_comings, put_lies, put_residence};
 use numa_rules::{Explanation, TakeField, Text, give_fields, say_explanation};
@@ -46,6 +47,16 @@ pub fn put_fields(alloc: Global, object: &mut Object, said: &Explanation, text: 
     *object = fields.object;
 }
 
+/// What is known of a page beside where it would go.
+pub enum Whereabouts<'a> {
+    /// Nothing.
+    Unknown,
+    /// It is there.
+    Resident(Residence<'a>),
+    /// It has 2 MiB, and lies nowhere yet.
+    Waiting(Pooled<'a>),
+}
+
 /// Writes where a page lies, if it is there.
 fn say_lies(text: &mut Vec<u8>, page: u64, residence: Residence<'_>) -> Result<(), AllocError> {
     let mut written = Text::of(text);
@@ -60,23 +71,33 @@ fn say_comings(text: &mut Vec<u8>, residence: Residence<'_>) -> Result<(), Alloc
     written.end(text)
 }
 
+/// Writes what pools have for a page.
+fn say_pooled(text: &mut Vec<u8>, pooled: Pooled<'_>) -> Result<(), AllocError> {
+    let mut written = Text::of(text);
+    put_pooled(&mut written, pooled);
+    written.end(text)
+}
+
 /// Appends the lines of an explanation.
 fn say_all(
     text: &mut Vec<u8>,
     space: &Space,
     said: &Explanation,
-    residence: Option<Residence<'_>>,
+    known: &Whereabouts<'_>,
 ) -> Result<(), AllocError> {
-    let Some(residence) = residence else {
-        return say_explanation(text, space.machine(), said);
-    };
-    say_lies(text, said.page, residence)?;
+    if let Whereabouts::Resident(residence) = known {
+        say_lies(text, said.page, *residence)?;
+    }
     say_explanation(text, space.machine(), said)?;
-    say_comings(text, residence)
+    match known {
+        Whereabouts::Unknown => Ok(()),
+        Whereabouts::Resident(residence) => say_comings(text, *residence),
+        Whereabouts::Waiting(pooled) => say_pooled(text, *pooled),
+    }
 }
 
 /// The lines of an explanation: of a page that is there the first says where it lies, and the last
-/// how it comes to that node.
+/// how it comes to that node; of one of 2 MiB that lies nowhere the last says what the pools have.
 ///
 /// # Errors
 /// `AllocError`: out of memory.
@@ -84,10 +105,10 @@ pub fn text_of(
     alloc: Global,
     space: &Space,
     said: &Explanation,
-    residence: Option<Residence<'_>>,
+    known: &Whereabouts<'_>,
 ) -> Result<Vec<u8>, AllocError> {
     let mut text = Vec::new(alloc);
-    match say_all(&mut text, space, said, residence) {
+    match say_all(&mut text, space, said, known) {
         Ok(()) => Ok(text),
         Err(fault) => {
             drop(text);
@@ -100,14 +121,16 @@ pub fn text_of(
 fn told(
     alloc: Global,
     said: &Explanation,
-    residence: Option<Residence<'_>>,
+    known: &Whereabouts<'_>,
     text: Vec<u8>,
 ) -> Result<Vec<u8>, AllocError> {
     let mut object = Object::new(alloc);
     object.put_text("kind", "explanation");
     put_fields(alloc, &mut object, said, text.as_slice());
-    if let Some(residence) = residence {
-        put_residence(alloc, &mut object, residence);
+    match known {
+        Whereabouts::Unknown => {}
+        Whereabouts::Resident(residence) => put_residence(alloc, &mut object, *residence),
+        Whereabouts::Waiting(pooled) => put_pooled_object(alloc, &mut object, *pooled),
     }
     let mut line = text;
     line.clear();
@@ -122,12 +145,12 @@ fn drawn(
     alloc: Global,
     space: &Space,
     said: &Explanation,
-    residence: Option<Residence<'_>>,
+    known: &Whereabouts<'_>,
     text: Vec<u8>,
 ) -> Result<Vec<u8>, AllocError> {
-    let lies = match residence {
-        Some(residence) => Some(residence.place.node),
-        None => None,
+    let lies = match known {
+        Whereabouts::Resident(residence) => Some(residence.place.node),
+        _ => None,
     };
     let picture = picture_of(alloc, space, said, lies, text.as_slice());
     drop(text);
@@ -143,13 +166,13 @@ pub fn shown(
     alloc: Global,
     space: &Space,
     said: &Explanation,
-    residence: Option<Residence<'_>>,
+    known: &Whereabouts<'_>,
     text: Vec<u8>,
     format: Format,
 ) -> Result<Vec<u8>, AllocError> {
     match format {
-        Format::Svg(_) => drawn(alloc, space, said, residence, text),
-        Format::Json => told(alloc, said, residence, text),
+        Format::Svg(_) => drawn(alloc, space, said, known, text),
+        Format::Json => told(alloc, said, known, text),
         _ => Ok(text),
     }
 }

@@ -14,9 +14,9 @@ static LETTERS: &[u8; 36] = b"0123456789abcdefghijklmnopqrstuvwxyz";
 
 const LACKING: u8 = b'!';
 
-/// Whether a line is the sum of others.
+/// Whether a line is the sum of others, or counts pages of another size.
 fn is_total(line: &[u8]) -> bool {
-    line.starts_with(b"total ")
+    line.starts_with(b"total ") || line.starts_with(b"pools ")
 }
 
 /// How long bars are: as those of pictures, of which the longest has so many pixels.

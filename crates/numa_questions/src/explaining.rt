@@ -1,6 +1,7 @@
 //! Why pages of a space, or of each process of a host, go where they go.
 use numa_answers::{
-    About, PageInterval, Residence, add_answer, shown, stretches_of, text_of, told_of,
+    About, PageInterval, Pooled, Residence, Whereabouts, add_answer, shown, stretches_of, text_of,
+    told_of,
 };
 use numa_host::{Host, Process};
 use numa_lines::RunFault;
@@ -70,22 +71,22 @@ struct ByRules<'a> {
     other: Option<&'a Space>,
 }
 
-/// Why a page would go where it goes, and by which rules, if that matters; of one that is there
-/// also where it lies, and how it comes there.
+/// Why a page would go where it goes, and by which rules, if that matters; and what else is known
+/// of it.
 fn reasons_by(
     alloc: Global,
     spaces: ByRules<'_>,
     asked: Touch,
     said: &Explanation,
-    residence: Option<Residence<'_>>,
+    known: &Whereabouts<'_>,
     format: Format,
 ) -> Result<Vec<u8>, Halt> {
-    let text = text_of(alloc, spaces.space, said, residence)?;
+    let text = text_of(alloc, spaces.space, said, known)?;
     let whole = match spaces.other {
         Some(other) => with_other(text, spaces.space, other, asked, said.page)?,
         None => text,
     };
-    Ok(shown(alloc, spaces.space, said, residence, whole, format)?)
+    Ok(shown(alloc, spaces.space, said, known, whole, format)?)
 }
 
 /// How a page comes where it lies; nothing if it isn't there.
@@ -102,24 +103,35 @@ fn comings_to(
     }
 }
 
-/// Why a page would go where it goes, if it lies here, or isn't there.
+/// What is known of a page of a process: where it lies, if it is there, and what the pools have for
+/// it, if it isn't, and has 2 MiB.
+#[derive(Clone, Copy)]
+struct Known<'a> {
+    place: Option<PagePlace>,
+    pooled: Option<Pooled<'a>>,
+}
+
+/// What is known of a page that comes so where it lies, if it is there.
+fn whereabouts<'a>(known: Known<'a>, comings: &'a [Coming]) -> Whereabouts<'a> {
+    match (known.place, known.pooled) {
+        (Some(place), _) => Whereabouts::Resident(Residence { place, comings }),
+        (None, Some(pooled)) => Whereabouts::Waiting(pooled),
+        (None, None) => Whereabouts::Unknown,
+    }
+}
+
+/// Why a page would go where it goes, of which this is known.
 fn reasons_in(
     alloc: Global,
     spaces: ByRules<'_>,
     asked: Touch,
     said: &Explanation,
-    place: Option<PagePlace>,
+    known: Known<'_>,
     format: Format,
 ) -> Result<Vec<u8>, Halt> {
-    let comings = comings_to(alloc, spaces.space, asked.task, said.page, place)?;
-    let residence = match place {
-        Some(place) => Some(Residence {
-            place,
-            comings: comings.as_slice(),
-        }),
-        None => None,
-    };
-    let text = reasons_by(alloc, spaces, asked, said, residence, format);
+    let comings = comings_to(alloc, spaces.space, asked.task, said.page, known.place)?;
+    let known = whereabouts(known, comings.as_slice());
+    let text = reasons_by(alloc, spaces, asked, said, &known, format);
     drop(comings);
     text
 }
@@ -146,7 +158,7 @@ fn reasons(
     alloc: Global,
     spaces: ByRules<'_>,
     asked: ReasonsAsked<'_>,
-    place: Option<PagePlace>,
+    known: Known<'_>,
 ) -> Result<Vec<u8>, Halt> {
     let space = spaces.space;
     let ReasonsAsked {
@@ -164,7 +176,7 @@ fn reasons(
         };
     }
     let said = explanation_of(alloc, space, touch, first)?;
-    let text = reasons_in(alloc, spaces, touch, &said, place, format);
+    let text = reasons_in(alloc, spaces, touch, &said, known, format);
     drop(said);
     text
 }
@@ -180,14 +192,14 @@ fn add_reasons<'a>(
     process: &'a Process,
     other: Option<&'a Host>,
     asked: ReasonsAsked<'_>,
-    place: Option<PagePlace>,
+    known: Known<'_>,
     answers: &mut ByProcess,
 ) -> Result<(), Halt> {
     let spaces = ByRules {
         space: &process.space,
         other: other_process(other, process.id),
     };
-    match reasons(alloc, spaces, asked, place) {
+    match reasons(alloc, spaces, asked, known) {
         Err(Halt::Unmapped) => Ok(()),
         text => add_answer(answers, process, text),
     }
@@ -201,18 +213,35 @@ pub fn place_of(there: &[Option<PagePlace>], number: usize) -> Option<PagePlace>
     }
 }
 
+/// What is known of the page in the process of a number.
+fn known_of<'a>(
+    asked: ReasonsAsked<'_>,
+    pooled: &[Option<Pooled<'a>>],
+    number: usize,
+) -> Known<'a> {
+    let pooled = match pooled.get(number) {
+        Some(pooled) => *pooled,
+        None => None,
+    };
+    Known {
+        place: place_of(asked.there, number),
+        pooled,
+    }
+}
+
 /// Adds why the pages of processes go where they go.
 fn add_each(
     alloc: Global,
     processes: &[Process],
     other: Option<&Host>,
     asked: ReasonsAsked<'_>,
+    pooled: &[Option<Pooled<'_>>],
     answers: &mut ByProcess,
 ) -> Result<Vec<u8>, Halt> {
     let mut number = 0usize;
     for process in processes {
-        let place = place_of(asked.there, number);
-        add_reasons(alloc, process, other, asked, place, answers)?;
+        let known = known_of(asked, pooled, number);
+        add_reasons(alloc, process, other, asked, known, answers)?;
         number = number.saturating_add(1);
     }
     if answers.processes() == 0 {
@@ -228,10 +257,11 @@ fn reasons_of_each(
     host: &Host,
     other: Option<&Host>,
     asked: ReasonsAsked<'_>,
+    pooled: &[Option<Pooled<'_>>],
 ) -> Result<Vec<u8>, Halt> {
     nodes_with(host.machine().nodes(), asked.touch.cpu)?;
     let mut answers = ByProcess::new(alloc, asked.format);
-    let text = add_each(alloc, host.processes(), other, asked, &mut answers);
+    let text = add_each(alloc, host.processes(), other, asked, pooled, &mut answers);
     drop(answers);
     text
 }
@@ -265,13 +295,28 @@ pub fn reasons_of<'a>(
     other: Option<Subject<'a>>,
     asked: ReasonsAsked<'_>,
 ) -> Result<Vec<u8>, Halt> {
+    reasons_beside(alloc, subject, other, asked, &[])
+}
+
+/// The same; of a page of 2 MiB that lies nowhere yet it is said too what the pools have for it, by
+/// `pooled`, in the one space, or in each process in the order in which they were made.
+///
+/// # Errors
+/// As [`reasons_of`].
+pub fn reasons_beside<'a>(
+    alloc: Global,
+    subject: Subject<'a>,
+    other: Option<Subject<'a>>,
+    asked: ReasonsAsked<'_>,
+    pooled: &[Option<Pooled<'_>>],
+) -> Result<Vec<u8>, Halt> {
     let text = match subject {
         Subject::One(space, _) => {
             let other = space_in(other);
-            let place = place_of(asked.there, 0);
-            reasons(alloc, ByRules { space, other }, asked, place)
+            let known = known_of(asked, pooled, 0);
+            reasons(alloc, ByRules { space, other }, asked, known)
         }
-        Subject::Each(host) => reasons_of_each(alloc, host, host_in(other), asked),
+        Subject::Each(host) => reasons_of_each(alloc, host, host_in(other), asked, pooled),
     };
     told_reasons(alloc, subject, asked.touch, asked.format, text)
 }
@@ -289,7 +334,11 @@ pub fn explain_space(
 ) -> Result<Vec<u8>, Halt> {
     let said = explanation_of(alloc, space, asked, page)?;
     let spaces = ByRules { space, other: None };
-    let text = reasons_in(alloc, spaces, asked, &said, None, format);
+    let unknown = Known {
+        place: None,
+        pooled: None,
+    };
+    let text = reasons_in(alloc, spaces, asked, &said, unknown, format);
     drop(said);
     told_reasons(alloc, Subject::One(space, None), asked, format, text)
 }

@@ -1,6 +1,6 @@
 //! Predictions of a space, or of each process of a host.
 use crate::each::{EachAsked, predict_each, predict_from};
-use numa_answers::{About, shown_as, told_of};
+use numa_answers::{About, FromPools, shown_as, told_of, with_pools};
 use numa_reports::Account;
 use numa_sheets::{Format, FreePages, Touch, Watch};
 use numa_space::Space;
@@ -62,10 +62,29 @@ pub fn prediction_of<P: Watch>(
     match text {
         Ok(text) => {
             let stay = !asked.there.is_empty();
-            let about = About::of(subject, Some(asked.touch), Added::fine(&[])).staying(stay);
+            let about = About::of(subject, Some(asked.touch), Added::fine(&[]));
+            let about = about.staying(stay).counting(subject);
             told_of(alloc, asked.format, &about, text)
         }
         Err(halt) => Err(halt),
+    }
+}
+
+/// The same, behind which is said where those of 2 MiB come from, if that is known.
+///
+/// # Errors
+/// As [`prediction_of`].
+pub fn prediction_beside<P: Watch>(
+    alloc: Global,
+    subject: Subject<'_>,
+    asked: EachAsked<'_>,
+    pools: Option<&FromPools>,
+    watch: &mut P,
+) -> Result<Vec<u8>, Halt> {
+    let text = prediction_of(alloc, subject, asked, watch)?;
+    match pools {
+        Some(pools) => Ok(with_pools(alloc, asked.format, text, pools)?),
+        None => Ok(text),
     }
 }
 

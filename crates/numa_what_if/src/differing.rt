@@ -301,7 +301,7 @@ pub(crate) fn told_of_difference(
 ) -> Result<Vec<u8>, Halt> {
     match text {
         Ok(text) => {
-            let about = About::of(subject, Some(asked.touch), asked.added);
+            let about = About::of(subject, Some(asked.touch), asked.added).counting(subject);
             told_of(alloc, asked.format, &about, text)
         }
         Err(halt) => Err(halt),

@@ -1,14 +1,13 @@
 //! Questions about the state that scripts lead to.
 use crate::differing::difference;
 use crate::explaining::{ExplainAsked, explanation_after};
+use crate::pooling::from_pools;
 use numa_host_script::HostScript;
 use numa_placed::Placed;
-use numa_play::{
-    Findings, Look, PLAIN, Scripts, answer, plain_by, play, subject_after, subject_of,
-};
-use numa_questions::{EachAsked, prediction_of};
+use numa_play::{Findings, Look, PLAIN, Scripts, answer, plain_by, play, subject_of};
+use numa_questions::{EachAsked, prediction_beside};
 use numa_sheets::{Format, FreePages, Touch, Watch};
-use numa_subjects::{Ended, Halt, Subject, Twin};
+use numa_subjects::{Ended, Halt, Twin};
 use numa_what_if::DiffAsked;
 use std::alloc::Global;
 use std::io::{Read, Write};
@@ -33,17 +32,23 @@ pub enum Question<'a> {
     Explain(ExplainAsked),
 }
 
-/// Where all mapped pages would go, as a text, if there is something of which it is asked.
+/// Where all mapped pages would go after a script, as a text, if there is something of which it is
+/// asked. If it matters what nodes have, or what is there, it is said too where pages of 2 MiB come
+/// from, if there are some.
 pub(crate) fn prediction<P: Watch>(
     alloc: Global,
-    subject: Result<Subject<'_>, Halt>,
+    script: &HostScript,
+    process: Option<u32>,
     asked: EachAsked<'_>,
     watch: &mut P,
 ) -> Result<Vec<u8>, Halt> {
-    match subject {
-        Ok(subject) => prediction_of(alloc, subject, asked, watch),
-        Err(halt) => Err(halt),
-    }
+    let subject = subject_of(script, process)?;
+    let pools = if asked.free.is_empty() && asked.there.is_empty() {
+        None
+    } else {
+        from_pools(script, process, asked.touch)?
+    };
+    prediction_beside(alloc, subject, asked, pools.as_ref(), watch)
 }
 
 /// Where all mapped pages would go after the lines so far, if they were touched now, but that those
@@ -69,7 +74,7 @@ pub fn prediction_there<P: Watch>(
         free,
         there,
     };
-    prediction(alloc, subject_of(script, process), asked, watch)
+    prediction(alloc, script, process, asked, watch)
 }
 
 /// An answer, once the remarks on it are written.
@@ -89,14 +94,22 @@ pub(crate) fn remarked<T: Write>(
     }
 }
 
-/// An answer that counts pages of 2 MiB as if they were touched, with a remark that says so, if
-/// there are some.
+/// Whether an answer counts pages: one that explains where they go doesn't.
+fn counts(question: &Question<'_>) -> bool {
+    !matches!(question, Question::Explain(_))
+}
+
+/// An answer, with a remark on how it counts pages of 2 MiB, if it counts pages, and there are
+/// such.
 fn counted<T: Write>(
     findings: &mut Findings<T>,
+    counts: bool,
     text: Result<Vec<u8>, Halt>,
 ) -> Result<Vec<u8>, Halt> {
     let text = text?;
-    findings.tell_huge(true);
+    if counts {
+        findings.tell_huge(true);
+    }
     remarked(findings, text)
 }
 
@@ -110,8 +123,8 @@ fn look_for(question: &Question<'_>) -> Look {
 
 /// Plays the scripts, and writes the answer to a question about the state that they lead to. What
 /// is wrong with a line is written to `told`, and the line is skipped, which the result says too;
-/// behind it stands what the answer doesn't say of pages of 2 MiB, if there are some. The answer is
-/// complete before its first byte is written.
+/// behind it stands how the answer counts pages of 2 MiB, if there are some. The answer is complete
+/// before its first byte is written.
 ///
 /// # Errors
 /// Why there is no answer. Text already written to `told` stays.
@@ -125,13 +138,15 @@ pub fn answer_after<R: Read + Drop, W: Write, T: Write + Drop, P: Watch>(
 ) -> Result<Ended, Halt> {
     let process = scripts.process;
     let mut findings = play(alloc, scripts, look_for(&question), told)?;
+    let counts = counts(&question);
     let text = match question {
-        Question::Predict(asked) => {
-            prediction(alloc, subject_after(&mut findings, process), asked, watch)
-        }
+        Question::Predict(asked) => match findings.end() {
+            Ok(()) => prediction(alloc, findings.script(), process, asked, watch),
+            Err(why) => Err(Halt::Stopped(why)),
+        },
         Question::Diff(asked) => difference(alloc, &mut findings, process, asked, watch),
         Question::Explain(asked) => explanation_after(alloc, &mut findings, process, asked),
     };
-    let text = counted(&mut findings, text);
+    let text = counted(&mut findings, counts, text);
     answer(findings, text, output)
 }

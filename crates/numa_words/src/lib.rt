@@ -14,6 +14,7 @@ mod differing;
 mod explaining;
 mod moving;
 mod placing;
+mod pooling;
 mod replaying;
 mod there;
 

@@ -253,7 +253,7 @@ fn told_of_moves(
         lines: playing.lines,
         faults: faults.of_lines(),
     };
-    let about = About::of(subject, touch, added);
+    let about = About::of(subject, touch, added).counting(subject);
     let text = told_of(alloc, playing.format, &about, text)?;
     Ok(Answer { text, is_other })
 }

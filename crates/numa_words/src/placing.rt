@@ -4,7 +4,7 @@ use crate::asking::prediction;
 use crate::explaining::{ExplainAsked, explanation_in};
 use crate::moving::{MovesAsked, moves_told};
 use crate::there::{Played, Reading, play_there};
-use numa_play::{Findings, Scripts, subject_of};
+use numa_play::{Findings, Scripts};
 use numa_questions::EachAsked;
 use numa_sheets::{Format, Watch};
 use numa_subjects::{Ended, Halt, Twin};
@@ -45,18 +45,23 @@ fn reading_for(question: &QuestionThere<'_>) -> Reading {
 }
 
 /// Whether an answer counts pages of 2 MiB, as if they were touched: that about pages that are
-/// there leaves them out.
-fn counts_huge(question: &QuestionThere<'_>) -> bool {
+/// there leaves them out. One that explains where pages go counts none.
+fn counts_huge(question: &QuestionThere<'_>) -> Option<bool> {
     match question {
-        QuestionThere::Moves(asked) => asked.touch.is_some(),
-        _ => true,
+        QuestionThere::Predict(_) => Some(true),
+        QuestionThere::Explain(_) => None,
+        QuestionThere::Moves(asked) => Some(asked.touch.is_some()),
     }
 }
 
-/// Remarks what an answer doesn't say of pages of 2 MiB, if there are some, and there is an answer.
-fn remark<T: Write>(findings: &mut Findings<T>, counts_huge: bool, text: &Result<Vec<u8>, Halt>) {
-    if text.is_ok() {
-        findings.tell_huge(counts_huge);
+/// Remarks how an answer counts pages of 2 MiB, if there are some, and there is an answer.
+fn remark<T: Write>(
+    findings: &mut Findings<T>,
+    counts_huge: Option<bool>,
+    text: &Result<Vec<u8>, Halt>,
+) {
+    if let (Some(counts), Ok(_)) = (counts_huge, text) {
+        findings.tell_huge(counts);
     }
 }
 
@@ -81,8 +86,8 @@ fn prediction_told<T: Write, P: Watch>(
         there: there.as_slice(),
         ..asked
     };
-    let subject = subject_of(played.findings.script(), played.process);
-    let text = prediction(alloc, subject, asked, watch);
+    let script = played.findings.script();
+    let text = prediction(alloc, script, played.process, asked, watch);
     drop(there);
     text
 }
@@ -90,8 +95,8 @@ fn prediction_told<T: Write, P: Watch>(
 /// Plays the scripts, and writes the answer to a question about the state that they lead to, in
 /// which pages are there: they lie as the scripts left them, and then as lines `at` of further
 /// texts state it, of which no others are played. What is wrong with a line is written to `told`,
-/// and the line is skipped, which the result says too; behind it stands what the answer doesn't say
-/// of pages of 2 MiB, if there are some. The answer is complete before its first byte is written.
+/// and the line is skipped, which the result says too; behind it stands how the answer counts
+/// pages of 2 MiB, if there are some. The answer is complete before its first byte is written.
 ///
 /// # Errors
 /// Why there is no answer. Text already written to `told` stays.

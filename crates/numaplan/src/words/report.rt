@@ -406,7 +406,8 @@ fn ended(
     touch: Touch,
     added: Added<'_>,
 ) -> Result<Vec<u8>, Halt> {
-    page.end(alloc, &About::of(subject, Some(touch), added))
+    let about = About::of(subject, Some(touch), added).counting(subject);
+    page.end(alloc, &about)
 }
 
 /// Writes the parts in their order, and returns the page.

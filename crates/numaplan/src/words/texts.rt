@@ -213,20 +213,26 @@ fn answer_of<T: Write, P: Watch>(
 }
 
 /// Whether an answer counts pages of 2 MiB, as if they were touched: that about pages that are
-/// there leaves them out.
-fn counts_huge(meant: Meant<'_>) -> bool {
-    !matches!(meant.asking.question, Question::Moves(..)) || !meant.touches.is_empty()
+/// there leaves them out. One that explains where pages go counts none.
+fn counts_huge(meant: Meant<'_>) -> Option<bool> {
+    match meant.asking.question {
+        Question::Explain(..) => None,
+        Question::Moves(..) => Some(!meant.touches.is_empty()),
+        _ => Some(true),
+    }
 }
 
-/// An answer, with remarks on it: what it doesn't say of pages of 2 MiB, which it counts or leaves
-/// out; that no line names the task; and that by the other rules it would be another.
+/// An answer, with remarks on it: how it counts pages of 2 MiB; that no line names the task; and
+/// that by the other rules it would be another.
 fn remarked<T: Write>(
     findings: &mut Findings<T>,
-    counts_huge: bool,
+    counts_huge: Option<bool>,
     answer: Answer,
 ) -> Result<Vec<u8>, Halt> {
     let Answer { text, is_other } = answer;
-    findings.tell_huge(counts_huge);
+    if let Some(counts) = counts_huge {
+        findings.tell_huge(counts);
+    }
     if findings.tell_unnamed().is_err() {
         drop(text);
         return Err(Halt::Stopped(RunFault::Memory));

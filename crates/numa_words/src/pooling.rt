@@ -1,0 +1,311 @@
+//! Pages of 2 MiB after scripts, and the pools that they come from: what these have for one page,
+//! and where all would lie once each was touched.
+ghost use Rattle.std.specs.Prelude.{◌≡◌, IfSome};
+ghost use Rattle.numa_placed.specs.Binds.{nodes_in};
+ghost use Rattle.numa_pools.specs.Pools.{giver};
+
+use arrayvec::ArrayVec;
+use numa_answers::{FromPools, Pooled};
+use numa_host_huge::HostHuge;
+use numa_host_pages::HostPages;
+use numa_host_script::HostScript;
+use numa_huge::{HugePages, HugePlaces, HugeSpot};
+use numa_lines::RunFault;
+use numa_machine::NoMemory;
+use numa_page_state::binding::page_count;
+use numa_page_state::huge_span;
+use numa_pools::Pools;
+use numa_questions::place_of;
+use numa_requests::PAGE_BYTES;
+use numa_sheets::Touch;
+use numa_space::Space;
+use numa_subjects::{Halt, PagePlace};
+use std::alloc::{AllocError, Global};
+
+/// The pages of 4 KiB of one of 2 MiB.
+const PARTS: u64 = 512;
+
+/// The pages of 2 MiB below address 2^47, and their bytes.
+const MOST_PAGES: u64 = 1 << 26;
+
+const MOST_BYTES: u64 = 1 << 47;
+
+/// No page.
+const NOWHERE: FromPools = FromPools {
+    on: [0; 256],
+    exhausted: 0,
+};
+
+/// What is known of a page in each process: where it lies, or what the pools have for it.
+#[derive(Drop)]
+pub(crate) struct KnownPages<'a> {
+    pub(crate) there: Vec<Option<PagePlace>>,
+    pub(crate) pooled: Vec<Option<Pooled<'a>>>,
+}
+
+/// A page of a process that is touched.
+#[derive(Clone, Copy)]
+struct AskedPage<'a> {
+    space: &'a Space,
+    touch: Touch,
+    page: u64,
+}
+
+/// The nodes that are asked for a page.
+fn nodes_for(asked: AskedPage<'_>) -> ArrayVec<u8, 256>
+    ensures { result.items ≡ nodes_in asked.space.now asked.touch.task asked.touch.cpu
+        asked.page }
+{
+    let Touch { task, cpu } = asked.touch;
+    match asked.space.list_at(task, asked.page, cpu) {
+        Ok(nodes) => nodes,
+        Err(_) => ArrayVec::new(),
+    }
+}
+
+/// What the pools have for a page of 2 MiB of which this is known, if it lies nowhere.
+fn pooled_in<'a>(pools: &'a Pools, asked: AskedPage<'_>, spot: HugeSpot) -> Option<Pooled<'a>>
+    ensures { IfSome result (λ pooled. pooled.giver ≡ giver pools.now (nodes_in
+        asked.space.now asked.touch.task asked.touch.cpu asked.page) pooled.is_reserved) }
+{
+    if spot.node().is_some() {
+        return None;
+    }
+    let nodes = nodes_for(asked);
+    Some(Pooled::of(pools, spot.is_reserved(), &nodes))
+}
+
+/// Where a page of 2 MiB lies of which this is known; another one lies here, if anywhere.
+fn place_by(spot: Option<HugeSpot>, other: Option<PagePlace>) -> Option<PagePlace> {
+    let Some(spot) = spot else {
+        return other;
+    };
+    match spot.node() {
+        Some(node) => Some(PagePlace { node, frame: None }),
+        None => other,
+    }
+}
+
+impl<'a> KnownPages<'a> {
+    /// Of no process.
+    fn new(alloc: Global) -> KnownPages<'a> {
+        KnownPages {
+            there: Vec::new(alloc),
+            pooled: Vec::new(alloc),
+        }
+    }
+
+    /// Adds what is known of the page of a process that has these pages of 2 MiB; if it isn't one
+    /// of them, it lies here.
+    fn add(
+        &mut self,
+        pools: Option<&'a Pools>,
+        kept: Option<&HugePages>,
+        asked: AskedPage<'_>,
+        other: Option<PagePlace>,
+    ) -> Result<(), AllocError> {
+        let spot = match kept {
+            Some(kept) => kept.places.at(asked.page / PARTS),
+            None => None,
+        };
+        let pooled = match (pools, spot) {
+            (Some(pools), Some(spot)) => pooled_in(pools, asked, spot),
+            _ => None,
+        };
+        self.there.push(place_by(spot, other))?;
+        self.pooled.push(pooled)
+    }
+
+    /// Adds it of each process of a host, or of one.
+    fn add_each(
+        &mut self,
+        script: &'a HostScript,
+        process: Option<u32>,
+        touch: Touch,
+        page: u64,
+        there: &[Option<PagePlace>],
+    ) -> Result<(), AllocError> {
+        let (Some(host), Some(pages)) = (script.host(), script.host_pages()) else {
+            return Ok(());
+        };
+        let pools = Some(pages.huge.pools());
+        for one in host.processes() {
+            if process.is_none() || process == Some(one.id) {
+                let place = place_of(there, self.there.len());
+                let kept = pages.huge.pages_of(one.id);
+                let asked = AskedPage {
+                    space: &one.space,
+                    touch,
+                    page,
+                };
+                self.add(pools, kept, asked, place)?;
+            }
+        }
+        Ok(())
+    }
+
+    /// Adds it of the one space of a script.
+    fn add_own(
+        &mut self,
+        script: &'a HostScript,
+        touch: Touch,
+        page: u64,
+        there: &[Option<PagePlace>],
+    ) -> Result<(), AllocError> {
+        let Some(own) = script.script() else {
+            return Ok(());
+        };
+        let Some(core) = own.core() else {
+            return Ok(());
+        };
+        let kept = own.huge();
+        let pools = match kept {
+            Some(kept) => Some(kept.places.pools()),
+            None => None,
+        };
+        let asked = AskedPage {
+            space: core.space(),
+            touch,
+            page,
+        };
+        self.add(pools, kept, asked, place_of(there, 0))
+    }
+}
+
+/// What is known of a page after a script: of the one space, or of each process of a host, or of
+/// one alone. Where it isn't one of 2 MiB, it lies as said.
+///
+/// # Errors
+/// `AllocError`: out of memory.
+pub(crate) fn known_pages<'a>(
+    alloc: Global,
+    script: &'a HostScript,
+    process: Option<u32>,
+    touch: Touch,
+    page: u64,
+    there: &[Option<PagePlace>],
+) -> Result<KnownPages<'a>, AllocError> {
+    let mut known = KnownPages::new(alloc);
+    known.add_own(script, touch, page, there)?;
+    known.add_each(script, process, touch, page, there)?;
+    Ok(known)
+}
+
+/// Adds the pages that lie on each node.
+fn add_counts(said: &mut FromPools, places: &HugePlaces) {
+    let counts = places.counts_in(0, MOST_PAGES);
+    for node in 0..256usize {
+        said.on[node] = said.on[node].saturating_add(counts.on[node]);
+    }
+}
+
+/// Where all pages of one process lie, once each was touched.
+fn from_own(kept: &HugePages, space: &Space, touch: Touch) -> Result<FromPools, NoMemory> {
+    let Touch { task, cpu } = touch;
+    let span = huge_span(0, MOST_BYTES / PAGE_BYTES);
+    let touched = kept
+        .places
+        .populated(space, span.first, span.pages, task, cpu)?;
+    let (places, arrived) = touched;
+    let mut said = FromPools {
+        on: [0; 256],
+        exhausted: arrived.exhausted,
+    };
+    add_counts(&mut said, &places);
+    drop(places);
+    Ok(said)
+}
+
+/// Where all pages of the one space of a script lie, once each was touched.
+fn from_script(script: &HostScript, touch: Touch) -> Result<FromPools, NoMemory> {
+    if let Some(own) = script.script() {
+        if let (Some(kept), Some(core)) = (own.huge(), own.core()) {
+            return from_own(kept, core.space(), touch);
+        }
+    }
+    Ok(NOWHERE)
+}
+
+/// Touches all pages of 2 MiB of a process of a host, from an address on so many bytes, and returns
+/// how many no node gave.
+fn touched_of(
+    huge: &mut HostHuge,
+    process: u32,
+    space: &Space,
+    touch: Touch,
+    start: u64,
+    length: u64,
+) -> Result<u64, NoMemory> {
+    let pages = page_count(length);
+    if !huge.has_huge_in(process, start / PAGE_BYTES, pages) {
+        return Ok(0);
+    }
+    let Touch { task, cpu } = touch;
+    let touched = match huge.populated(process, space, start, length, task, cpu) {
+        Ok(touched) => touched,
+        Err(why) => return Err(why),
+    };
+    let (places, arrived) = touched;
+    let exhausted = arrived.exhausted;
+    huge.settle_touched(process, places, arrived);
+    Ok(exhausted)
+}
+
+/// Where the pages of a process lie once each was touched.
+fn add_touched(
+    huge: &mut HostHuge,
+    process: u32,
+    space: &Space,
+    touch: Touch,
+    said: &mut FromPools,
+) -> Result<(), NoMemory> {
+    let exhausted = touched_of(huge, process, space, touch, 0, MOST_BYTES)?;
+    said.exhausted = said.exhausted.saturating_add(exhausted);
+    if let Some(kept) = huge.pages_of(process) {
+        add_counts(said, &kept.places);
+    }
+    Ok(())
+}
+
+/// Where all pages of the processes of a host lie, or of one, once each was touched, those of one
+/// process after the other.
+fn from_shared(
+    script: &HostScript,
+    pages: &HostPages,
+    process: Option<u32>,
+    touch: Touch,
+) -> Result<FromPools, NoMemory> {
+    let mut said = NOWHERE;
+    let Some(host) = script.host() else {
+        return Ok(said);
+    };
+    let mut huge = pages.huge.copy()?;
+    for one in host.processes() {
+        if process.is_none() || process == Some(one.id) {
+            add_touched(&mut huge, one.id, &one.space, touch, &mut said)?;
+        }
+    }
+    drop(huge);
+    Ok(said)
+}
+
+/// Where all pages of 2 MiB would lie after a script, if each were touched from the pools as they
+/// are, as `populate` does; `None` if the script has no such pages.
+///
+/// # Errors
+/// `Stopped`: out of memory.
+pub(crate) fn from_pools(
+    script: &HostScript,
+    process: Option<u32>,
+    touch: Touch,
+) -> Result<Option<FromPools>, Halt> {
+    let said = match script.host_pages() {
+        Some(pages) => from_shared(script, pages, process, touch),
+        None => from_script(script, touch),
+    };
+    match said {
+        Ok(said) if said.pages() > 0 => Ok(Some(said)),
+        Ok(_) => Ok(None),
+        Err(_) => Err(Halt::Stopped(RunFault::Memory)),
+    }
+}
