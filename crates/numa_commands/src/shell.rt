@@ -4,11 +4,12 @@ use numa_host_script::HostScript;
 use numa_lines::RunFault;
 use numa_mask::parts::first_place;
 use numa_play::{page_meant, page_places, subject_of};
-use numa_questions::{AskedPages, EachAsked, ReasonsAsked, prediction_of, reasons_of};
+use numa_questions::{AskedPages, EachAsked, prediction_of};
 use numa_script::number::{number, small};
 use numa_script::parts::words;
 use numa_sheets::{AddressAsked, Format, Touch};
 use numa_subjects::Halt;
+use numa_words::{ExplainAsked, explanation};
 use std::alloc::{AllocError, Global};
 
 /// The help on the lines of a shell.
@@ -160,16 +161,12 @@ fn explained(
     let Ok(there) = page_places(alloc, script, process, page) else {
         return Err(Halt::Stopped(RunFault::Memory));
     };
-    let asked = ReasonsAsked {
+    let asked = ExplainAsked {
         touch,
         pages: AskedPages { page, pages: None },
         format: Format::Text,
-        there: there.as_slice(),
     };
-    let text = match subject_of(script, process) {
-        Ok(subject) => reasons_of(alloc, subject, None, asked),
-        Err(halt) => Err(halt),
-    };
+    let text = explanation(alloc, script, None, process, asked, there.as_slice());
     drop(there);
     text
 }

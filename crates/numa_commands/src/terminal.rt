@@ -1,5 +1,5 @@
 //! Scripts that are typed at a terminal.
-use crate::shell::{SHELL_LINES, answer_to, asked_of};
+use crate::shell::{AskedProcess, SHELL_LINES, ShellQuestion, answer_to, asked_of};
 use numa_console::{Answering, StandardError, fail};
 use numa_diagnose::{LineAt, say_line};
 use numa_host_script::HostScript;
@@ -139,6 +139,14 @@ impl<W: Write, T: Write> Typed<W, T> {
         self.tell(name, place, line)
     }
 
+    /// What a prediction doesn't say of pages of 2 MiB, which an explanation tells.
+    fn remark(&self, asked: AskedProcess) -> &'static str {
+        match asked.question {
+            ShellQuestion::Predict(_) => remark_on(&self.judged, true).unwrap_or(""),
+            _ => "",
+        }
+    }
+
     /// Answers a question of a shell, and returns whether the line is one. What the answer doesn't
     /// say of pages of 2 MiB is remarked.
     fn ask(&mut self, line: &[u8]) -> Result<bool, RunFault> {
@@ -151,7 +159,7 @@ impl<W: Write, T: Write> Typed<W, T> {
         match answer_to(self.alloc, &self.judged, asked) {
             Ok(text) => {
                 put(&mut self.output, text.as_slice())?;
-                let remark = remark_on(&self.judged, true).unwrap_or("");
+                let remark = self.remark(asked);
                 put(&mut self.told, remark.as_bytes())?;
             }
             Err(Some(message)) => {
