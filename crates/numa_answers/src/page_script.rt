@@ -260,9 +260,7 @@ function rangesPart(title, view, views) {
     value: it,
     areas: ofProcess,
     cells: [
-      { key: it.start, text: hex(it.start) },
-      { key: it.end, text: hex(it.end) },
-      ...nameCells(it),
+      ...rangeCells(it),
       countCell(it.anon),
       sizeCell(it.anon),
       it.policy,
@@ -365,9 +363,7 @@ function difference(from) {
     spans.map((it) => ({
       value: it,
       cells: [
-        { key: it.start, text: hex(it.start) },
-        { key: it.end, text: hex(it.end) },
-        ...nameCells(it),
+        ...rangeCells(it),
         countCell(it.differs),
         pairsText(it.differences),
       ],

@@ -109,10 +109,14 @@ const nodeHeads = (nodes) => (nodes.length > FEW ? ['nodes'] : nodes.map((node) 
 const nodeCells = (range, nodes) => (nodes.length > FEW ? [nodesText(range.nodes, 'pages')]
   : nodes.map((node) => someCell(countOf(range, node))));
 
+// The columns of a range's addresses.
+const spanCells = (range) => [range.start, range.end].map((it) => ({ key: it, text: hex(it) }));
+
 // A column of names, if areas have some.
 const nameHeads = () => (areas.length ? ['name'] : []);
 const nameCell = (name) => ({ key: name, text: name, isName: true });
 const nameCells = (range) => (areas.length ? [nameCell(namesOf(range, ofProcess))] : []);
+const rangeCells = (range) => [...spanCells(range), ...nameCells(range)];
 
 // The choice of a node, all of whose rows have pages on it.
 function pickOf(tools, nodes) {
@@ -197,8 +201,7 @@ function table(title, heads, rows, chosen, nodes) {
 
 // What accesses met by range, if that is told, the busiest first.
 function busiestPart(ranges, chosen) {
-  const rows = (ranges || []).map((it) => ({ value: it, cells: [
-    { key: it.start, text: hex(it.start) }, { key: it.end, text: hex(it.end) },
+  const rows = (ranges || []).map((it) => ({ value: it, cells: [...spanCells(it),
     countCell(it.accesses), nodesText(it.nodes, 'accesses'), countCell(it.unserved)] }));
   const heads = ['start', 'end', 'accesses', 'nodes', 'unserved'];
   if (ranges) table('Accesses by range', heads, rows, chosen);
