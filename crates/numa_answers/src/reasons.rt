@@ -48,6 +48,7 @@ pub fn put_fields(alloc: Global, object: &mut Object, said: &Explanation, text: 
 }
 
 /// What is known of a page beside where it would go.
+#[derive(Clone, Copy)]
 pub enum Whereabouts<'a> {
     /// Nothing.
     Unknown,
