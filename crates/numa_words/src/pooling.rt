@@ -113,7 +113,8 @@ impl<'a> KnownPages<'a> {
             _ => None,
         };
         self.there.push(place_by(spot, other))?;
-        self.pooled.push(pooled)
+        self.pooled.push(pooled)?;
+        Ok(())
     }
 
     /// Adds it of each process of a host, or of one.
