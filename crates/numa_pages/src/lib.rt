@@ -27,4 +27,5 @@ pub use binding::Rebound;
 pub use listing::{PageRun, list_runs};
 pub use mapping::HugeMapping;
 pub use pages::Pages;
+pub use questions::counts_with;
 pub use refusal::ChangeRefusal;

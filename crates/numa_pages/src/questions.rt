@@ -2,7 +2,7 @@
 ghost use Rattle.std.specs.Prelude.{◌≡◌, ◌≢◌, ◌+◌, ◌*◌, ◌<◌, ◌≤◌, ◌^◌, ℕ, MatchOption, None};
 ghost use Rattle.std.specs.Prelude.{Option, Some, slice_index};
 ghost use Rattle.numa_placed.specs.Spots.{node_of, spot_at};
-ghost use Rattle.numa_huge.specs.Huge.{node_of as huge_node, places_of};
+ghost use Rattle.numa_huge.specs.Huge.{node_of as huge_node, on_node, pages_of, places_of};
 ghost use Rattle.numa_page_state.specs.Huge.{spot_of};
 ghost use Rattle.numa_placed.specs.Shifts.{AreRooms};
 ghost use Rattle.numa_page_state.specs.Outcomes.{rooms_of};
@@ -79,13 +79,23 @@ pub(crate) fn node_of(placed: &Placed, huge: &HugePlaces, page: u64) -> Option<u
     }
 }
 
+/// The number of pages of 4 KiB on each node, of which one of 2 MiB is 512, where so many have
+/// 4 KiB.
+pub fn counts_with(small: &[u64; 256], huge: &HugePlaces) -> [u64; 256]
+    requires { (node : ℕ) → node < 256 → slice_index small.now node ≤ 2 ^ 35 }
+    ensures { (node : ℕ) → node < 256 → slice_index result node
+        ≡ 512 * pages_of (on_node node) (places_of huge.now).spots + slice_index small.now node }
+{
+    let large = huge.counts_in(0, MOST_HUGE);
+    add(parts_on(large.on), small)
+}
+
 /// The number of pages of 4 KiB on each node, of which one of 2 MiB is 512.
 pub(crate) fn counts_of(placed: &Placed, huge: &HugePlaces) -> [u64; 256]
     ensures { (node : ℕ) → node < 256 → slice_index result node
         ≡ both_on (places_of huge.now) (spot_at placed.now) node }
 {
-    let large = huge.counts_in(0, MOST_HUGE);
-    add(parts_on(large.on), &placed.counts())
+    counts_with(&placed.counts(), huge)
 }
 
 /// Where a page of 2 MiB lies, as those of 4 KiB.

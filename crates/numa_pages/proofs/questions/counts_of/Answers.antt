@@ -1,21 +1,17 @@
-use Rattle.std.proofs.Common.{◌≡◌, ℕ, ◌*◌, ◌<◌, ◌≤◌, arith}
+use Rattle.std.proofs.Common.{◌≡◌, ℕ, ◌*◌, ◌+◌, ◌<◌, ◌≤◌, ◌∙◌, ap, arith}
 use Rattle.std.specs.Prelude.{slice_index}
 use Rattle.numa_placed.specs.Spots.{is_on, spot_at}
 use Rattle.numa_placed.proofs.Shared.{count-le}
-use Rattle.numa_huge.specs.Huge.{huge_at, on_node}
+use Rattle.numa_huge.specs.Huge.{huge_at, on_node, pages_of}
 use Rattle.numa_pages.proofs.questions.counts_of.Goals as goal
 
-pub parts_on-requires : goal.parts_on-requires
-parts_on-requires c node near =
-    let few = count-le (λ page. on_node node (huge_at c.args.huge.now.runs page)) 0 67108864 in
-    omega (arith, c.counts_in-large.ensures.on node near, few)
-
-pub add-requires-clause-held : goal.add-requires-clause-held
-add-requires-clause-held c node near =
-    let few = count-le (λ page. on_node node (huge_at c.args.huge.now.runs page)) 0 67108864 in
-    omega (arith, c.parts_on.ensures node near, c.counts_in-large.ensures.on node near, few)
-
-pub add-requires-clause-stated : goal.add-requires-clause-stated
-add-requires-clause-stated c node near =
+pub counts_with-requires : goal.counts_with-requires
+counts_with-requires c node near =
     let few = count-le (λ page. is_on node (spot_at c.args.placed.now page)) 0 34359738368 in
     omega (arith, c.counts.ensures node near, few)
+
+pub returns : goal.returns
+returns c node near =
+    c.counts_with.ensures node near
+    ∙ ap (λ (n : ℕ). 512 * pages_of (on_node node) (huge_at c.args.huge.now.runs) + n)
+    (c.counts.ensures node near)
