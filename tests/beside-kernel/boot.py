@@ -16,7 +16,7 @@ ADDED_MEGABYTES = 256  # of a node whose memory is added: a multiple of what a k
 # The kernel's command line: what is played; page tables of four levels; that it comes up quickly.
 LINE = "console=ttyS0 quiet loglevel=0 panic=-1 numa_balancing=disable transparent_hugepage=never"
 LINE += " memhp_default_state=online no5lvl"
-LINE += " tsc=unstable no_timer_check rcupdate.rcu_expedited=1"
+LINE += " tsc=unstable no_timer_check rcupdate.rcu_expedited=1 mitigations=off"
 
 
 def archive(files):
@@ -62,23 +62,24 @@ def main():
         "init": (0o100755, open(player, "rb").read()),
         "scripts": (0o100644, sys.stdin.buffer.read()),
     }
-    with tempfile.NamedTemporaryFile() as initrd:
+    with tempfile.NamedTemporaryFile() as initrd, tempfile.NamedTemporaryFile() as told:
         initrd.write(archive(files))
         initrd.flush()
         # one thread, since CPUs that wait for each other take long where processors are short
         command = ["qemu-system-x86_64", "-M", "pc", "-accel", "tcg,thread=single"]
         # (a kernel that clears pages byte by byte, by ERMS, takes long here)
         command += ["-cpu", "max,-erms,-fsrm", "-nographic", "-nic", "none", "-no-reboot"]
-        command += ["-kernel", kernel, "-initrd", initrd.name, "-append", LINE]
+        command += ["-kernel", kernel, "-initrd", initrd.name, "-append", LINE, "-debugcon", f"file:{told.name}"]
         run = subprocess.run(
             command + words_for(machine),
             stdin=subprocess.DEVNULL,
             stdout=subprocess.PIPE,
             timeout=3000,
         )
-    seen = run.stdout.decode(errors="replace").replace("\r", "").split("\n")
+        seen = told.read().decode(errors="replace").split("\n")
     if "end" not in seen:
-        sys.exit("boot.py: the kernel did not play all scripts:\n" + "\n".join(seen[-20:]))
+        console = run.stdout.decode(errors="replace").replace("\r", "").split("\n")
+        sys.exit("boot.py: the kernel did not play all scripts:\n" + "\n".join(seen[-20:] + console[-20:]))
     print(f"machine {machine}")
     for line in seen:
         if line.startswith(("order ", "script ")) or " => " in line:

@@ -13,9 +13,12 @@
  *     in P lie => PAGE NODE PAGES, ..      runs of pages on one node, rising, by move_pages(2)
  *     in P counts => N0=PAGES ..           what numa_maps counts
  *
+ * or, in scripts with a line `pool`, what pools.h has: `in P there => ..`, and behind these `pool => ..`.
+ *
  * Not proved. */
 #include "calls.h"
 #include "pages.h"
+#include "pools.h"
 #include <semaphore.h>
 #include <signal.h>
 #include <sys/prctl.h>
@@ -80,7 +83,10 @@ static void carry_out(const char *line, char *answer, int size)
 		list_pages(answer, size);
 	else if (!strcmp(line, "counts"))
 		list_counts(answer, size);
-	else if (!carry_out_of_pages(line, answer, size) && !carry_out_of_task(line, answer, size))
+	else if (!strcmp(line, "there"))
+		list_all(answer, size);
+	else if (!carry_out_of_pools(line, answer, size) && !carry_out_of_pages(line, answer, size) &&
+		 !carry_out_of_task(line, answer, size))
 		tell(carry_out_of_memory(line), answer, size);
 }
 
@@ -182,18 +188,37 @@ static int end_process(int process)
 	return 0;
 }
 
-/* Where a process' pages lie, or each one's (-1). */
-static void tell_pages(int process)
+/* Where a process' pages lie. */
+static void tell_pages_of(int process)
 {
 	char answer[2048];
+	ask(process, processes[process].first, "lie", answer, sizeof answer);
+	printf("in %d lie => %s\n", process, answer);
+	ask(process, processes[process].first, "counts", answer, sizeof answer);
+	printf("in %d counts => %s\n", process, answer);
+}
+
+static void tell_all_of(int process)
+{
+	static char told[PROCESSES][2048];
+	char answer[2048], name[32];
+	ask(process, processes[process].first, "there", answer, sizeof answer);
+	snprintf(name, sizeof name, "in %d there", process);
+	tell_if_changed(name, answer, told[process], sizeof told[process]);
+}
+
+/* The same of one, or of each (-1); and what is in the pools. */
+static void tell_pages(int process)
+{
+	static char told[1024];
+	char text[1024];
 	int other;
-	for (other = 0; other < PROCESSES; other++) {
-		if (processes[other].pid == NO_PID || (process >= 0 && other != process))
-			continue;
-		ask(other, processes[other].first, "lie", answer, sizeof answer);
-		printf("in %d lie => %s\n", other, answer);
-		ask(other, processes[other].first, "counts", answer, sizeof answer);
-		printf("in %d counts => %s\n", other, answer);
+	for (other = 0; other < PROCESSES; other++)
+		if (processes[other].pid != NO_PID && (process < 0 || other == process))
+			has_pools ? tell_all_of(other) : tell_pages_of(other);
+	if (has_pools) {
+		list_pools(text, sizeof text);
+		tell_if_changed("pool", text, told, sizeof told);
 	}
 }
 
@@ -243,10 +268,13 @@ static void play_line(const char *line)
 		play_in(process, line + begin, answer, sizeof answer);
 	else if (sscanf(line, "fork %d %*d %d", &process, &task) == 2)
 		ask(process, task, line, answer, sizeof answer);
+	else if (!strncmp(line, "pool", 4))
+		carry_out_pool(line, answer, sizeof answer);
 	else
 		tell(play_of_host(line), answer, sizeof answer);
 	printf("%s => %s\n", line, answer);
-	if (has_pages && !strncmp(line, "in ", 3) && may_move(line + begin))
+	if (has_pages && process >= 0 &&
+	    (may_move(line + begin) || (has_pools && may_change_pools(line + begin))))
 		tell_pages(process);
 	if (has_pages && (!strncmp(line, "cgroup-mems ", 12) || !strncmp(line, "attach ", 7) ||
 			  !strncmp(line, "exit ", 5)))

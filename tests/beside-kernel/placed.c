@@ -14,12 +14,14 @@
  * some seconds without work do.
  *
  * and before such a line, where a node is full, `own => NODES`: on which nodes pages of this program
- * itself lie, as its code and stack; a kernel moves these too. A script that was played whole has
+ * itself lie, as its code and stack; a kernel moves these too. Of scripts that begin with `pool` it tells
+ * what pools.h has in place of these. A script that was played whole has
  * `end => ok` behind it. The process has one thread, since a kernel moves pages once for each. Not
  * proved. */
 #include "calls.h"
 #include "full.c"
 #include "pages.h"
+#include "pools.h"
 
 #define MEMS "/cgroup/played/cpuset.mems"
 
@@ -34,6 +36,16 @@ static void ask_filler(int node)
 }
 
 /* ---- where pages lie */
+
+static void tell_of_pools(void)
+{
+	static char told[2048], told_of_pools[1024];
+	char text[2048];
+	list_all(text, sizeof text);
+	tell_if_changed("there", text, told, sizeof told);
+	list_pools(text, sizeof text);
+	tell_if_changed("pool", text, told_of_pools, sizeof told_of_pools);
+}
 
 static void tell_pages(void)
 {
@@ -144,14 +156,15 @@ static void carry_out(const char *line, char *answer, int size)
 		tell(write_file(MEMS, word), answer, size);
 	} else if (sscanf(line, "weight %lu %127s", &node, word) == 2) {
 		tell(set_weight(node, word), answer, size);
-	} else if (!carry_out_of_pages(line, answer, size) && !carry_out_of_task(line, answer, size)) {
+	} else if (!carry_out_of_pools(line, answer, size) && !carry_out_of_pages(line, answer, size) &&
+		   !carry_out_of_task(line, answer, size)) {
 		tell(carry_out_of_memory(line), answer, size);
 	}
 }
 
 static void play(FILE *lines, const char *all)
 {
-	char line[512], answer[256];
+	char line[512], answer[2048];
 	mkdir("/cgroup/played", 0755);
 	write_file(MEMS, all);
 	snprintf(line, sizeof line, "%d", (int)getpid());
@@ -170,7 +183,9 @@ static void play(FILE *lines, const char *all)
 			tell_own();
 		carry_out(line, answer, sizeof answer);
 		printf("%s => %s\n", line, answer);
-		if (moves(line))
+		if (has_pools && (moves(line) || may_change_pools(line)))
+			tell_of_pools();
+		else if (moves(line))
 			tell_pages();
 	}
 	printf("end => ok\n");

@@ -7,12 +7,15 @@ of docs/KERNEL.md, or is told; the last line counts. With --program=PROGRAM in f
 answer the same scripts as the model does. Not proved."""
 
 import collections
+import copy
 import os
 import sys
 
 sys.path.append(os.path.dirname(os.path.abspath(__file__)) + "/../model")
 
+import huge
 import model
+import pool_lines
 from commands import span_of
 from compare import opening, read_seen, run, short
 from space import piece_at
@@ -23,6 +26,7 @@ ROWS = {
     "hole": "lines populate over a hole, of which a kernel had written to the pages in front",
     "behind": "of them to those behind it too (6.1)",
     "again": "lines by which a page found room on a filled node, where some was free again",
+    **pool_lines.ROWS,
 }
 
 
@@ -46,8 +50,9 @@ def short_of_move(answer):
     if words[0] in ("at", "room", "memory-migrate"):
         return words[1] if words[1] == "ok" else answer
     if "placed" in words:
-        return "ok" if words[4] == "0" else "full"
-    return short(answer)
+        lacking = [number for word, number in zip(words, words[1:]) if word == "exhausted" and number != "0"]
+        return "full" if lacking else "ok"
+    return "Unsure" if answer == "refused Unsure" else short(answer)
 
 
 class Follower:
@@ -61,6 +66,7 @@ class Follower:
     def play(self, line, own):
         """The answer. Pages of the player itself are moved too: one stands for all on a node; and
         where a full node gets room in the meantime, how much isn't known: None."""
+        self.before = copy.deepcopy(self.state) if pool_lines.may_go_back(line) else None
         placed = self.state.placed
         placed.tell(collections.Counter(), 0)
         if line.startswith(("mems ", "migrate ")):
@@ -86,10 +92,21 @@ class Follower:
             elif is_front:
                 break
 
+    def go_back(self, line, seen):
+        """The model plays a line that it had answered otherwise as 6.1 takes it: what that line is, the
+        answer and the row."""
+        its, self.state = huge.huge_of(self.before), self.before
+        other, row = pool_lines.line_of_6_1(line, seen, its.pools)
+        return other, model.answer(self.state, other) if other else seen, row
+
+    def told(self, line):
+        """What should be told of pages and pools."""
+        its = self.state.huge or huge.Huge(self.state.space.machine.memory)
+        return its.pools.text() if line == "pool" else pool_lines.text_of(self.nodes(), pool_lines.nodes_of(its))
+
     def counts(self):
         """What numa_maps counts of the script's pages, by node."""
-        counts = collections.Counter(self.nodes().values())
-        return "".join(f"N{node}={count} " for node, count in sorted(counts.items()))
+        return pool_lines.counts_text(self.nodes())
 
     def nodes(self):
         return self.state.placed.stated
@@ -100,7 +117,7 @@ class Follower:
 
 
 def is_hole(line, answer):
-    return line.startswith("populate ") and answer == "refused Unmapped ENOMEM"
+    return bool(line) and line.startswith("populate ") and answer == "refused Unmapped ENOMEM"
 
 
 def cause(line, mine, seen, is_full):
@@ -119,12 +136,22 @@ def cause(line, mine, seen, is_full):
 def compare(machine, script, counts):
     """One script: the model beside the kernel, up to the first difference without a row."""
     name, lines = script
-    follower, own, mine, before = Follower(machine), [], None, None
+    follower, own, mine, before, last = Follower(machine), [], None, None, pool_lines.Last()
     if lines.pop()[0] != "end":
         counts["new"] += 1
         print(f"{name}: not played to its end")
-    for line, seen in lines:
-        if line == "own":
+    for number, (line, seen) in enumerate(lines):
+        if line in pool_lines.TOLD:
+            counts["pools"] += 1
+            seen = last.text(line, seen)
+            if is_hole(before, mine) and follower.told(line) != seen:
+                counts["behind"] += 1
+                follower.write(before, False)
+            if (wanted := follower.told(line)) != seen:
+                counts["new"] += 1
+                print(f"{name}: behind {before}: {line} {seen}, the model {wanted}")
+                return
+        elif line == "own":
             own = [int(word) for word in seen.split()]
         elif line == "lie":
             if is_hole(before, mine) and follower.nodes() != pages_of(seen):
@@ -144,6 +171,9 @@ def compare(machine, script, counts):
                 counts["hole"] += 1
             elif mine is None or short_of_move(mine) != seen:
                 row = cause(line, mine, seen, bool(follower.state.placed.rooms))
+                if follower.before and row is None:
+                    other, answer, row = follower.go_back(line, seen)
+                    row, lines[number] = row if short_of_move(answer) == seen else None, (other, seen)
                 counts[row or "new"] += 1
                 if row is None:
                     print(f"{name}: {line}: the model {mine}, the kernel {seen}")
@@ -196,7 +226,8 @@ def compare_program(program, known, machine, script, counts):
     program doesn't know: the program beside the model, with the listing behind each line that may
     have moved pages."""
     name, lines = script
-    asked = ["maps 1" if line == "lie" else line for line, _ in lines if line not in ("own", "counts")]
+    asked = ["maps 1" if line in ("lie", "there") else line for line, _ in lines
+             if line not in (None, "own", "counts")]
     asked = [line for line in asked if flags_of(line) <= known]
     lines = ["rules linux", *opening(machine), *asked]
     said, state = iter(run(program, lines)), model.State()
@@ -220,7 +251,8 @@ def main():
         machine, _, seen = read_seen(path)
         scripts += len(seen)
         for script in seen:
-            compare(machine, script, counts)
+            with pool_lines.kernels_way(counts):
+                compare(machine, script, counts)
             if program:
                 compare_program(program, known, machine, script, counts)
     for row, what in ROWS.items():
@@ -229,8 +261,8 @@ def main():
     if program:
         print(f"{counts['asked']} lines asked of the program")
     print(f"{scripts} scripts, {counts['lines']} lines ({counts['first writes']} populate),"
-          f" {counts['read-backs']} times all pages read back ({counts['pages']} pages):"
-          f" {counts['new']} differences under no row")
+          f" {counts['read-backs']} times all pages read back ({counts['pages']} pages), {counts['pools']} times"
+          f" pools or pages of both sizes: {counts['new']} differences under no row")
     sys.exit(1 if counts["new"] else 0)
 
 

@@ -455,21 +455,26 @@ def bind_strictly(state, start, length, asked):
     return placed.bind_strictly(state, start, length, asked)
 
 
+def aim_of(state, _, nodes):
+    """Where a page goes of its list: to the first node with a free page, if one is spare; else to the first."""
+    pools = state.huge.pools
+    spare = [node for node in nodes if pools.free[node]] if pools.spare() > 0 else []
+    return (spare or nodes)[0]
+
+
 def bind_and_move(state, start, length, asked, task, cpu, is_strict=False):
-    """`mbind .. move`: a page goes to the first node of its list with a free page, if one is spare; else
-    to the first."""
+    """`mbind .. move`."""
     text = placed.bind_and_move(state, start, length, asked, task, cpu, is_strict)
     if not text.startswith("ok"):
         return text
     flows, left = Counter(), 0
     for page in astray(state, start, length, asked):
         nodes = placed.nodes_for(state.space, task, page * HUGE, cpu)
-        lies, pools = state.huge.spots[page], state.huge.pools
+        lies = state.huge.spots[page]
         if not nodes:
             left += 1
             continue
-        spare = [node for node in nodes if pools.free[node]] if pools.spare() > 0 else []
-        aim = (spare or nodes)[0]
+        aim = aim_of(state, page, nodes)
         if aim != lies:
             send(state, page, aim)
             flows[lies, aim] += 1
