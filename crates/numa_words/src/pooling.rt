@@ -30,12 +30,6 @@ const MOST_PAGES: u64 = 1 << 26;
 
 const MOST_BYTES: u64 = 1 << 47;
 
-/// No page.
-const NOWHERE: FromPools = FromPools {
-    on: [0; 256],
-    exhausted: 0,
-};
-
 /// What is known of a page in each process: where it lies, or what the pools have for it.
 #[derive(Drop)]
 pub(crate) struct KnownPages<'a> {
@@ -192,6 +186,14 @@ pub(crate) fn known_pages<'a>(
     Ok(known)
 }
 
+/// No page.
+fn no_pages() -> FromPools {
+    FromPools {
+        on: [0; 256],
+        exhausted: 0,
+    }
+}
+
 /// Adds the pages that lie on each node.
 fn add_counts(said: &mut FromPools, places: &HugePlaces) {
     let counts = places.counts_in(0, MOST_PAGES);
@@ -224,7 +226,7 @@ fn from_script(script: &HostScript, touch: Touch) -> Result<FromPools, NoMemory>
             return from_own(kept, core.space(), touch);
         }
     }
-    Ok(NOWHERE)
+    Ok(no_pages())
 }
 
 /// Touches all pages of 2 MiB of a process of a host, from an address on so many bytes, and returns
@@ -276,7 +278,7 @@ fn from_shared(
     process: Option<u32>,
     touch: Touch,
 ) -> Result<FromPools, NoMemory> {
-    let mut said = NOWHERE;
+    let mut said = no_pages();
     let Some(host) = script.host() else {
         return Ok(said);
     };
