@@ -47,8 +47,8 @@ struct AskedPage<'a> {
 
 /// The nodes that are asked for a page.
 fn nodes_for(asked: AskedPage<'_>) -> ArrayVec<u8, 256>
-    ensures { result.items ≡ nodes_in asked.space.now asked.touch.task asked.touch.cpu
-        asked.page }
+    ensures { result.items ≡ nodes_in asked.entry.space.now asked.entry.touch.task
+        asked.entry.touch.cpu asked.entry.page }
 {
     let Touch { task, cpu } = asked.touch;
     match asked.space.list_at(task, asked.page, cpu) {
@@ -60,7 +60,8 @@ fn nodes_for(asked: AskedPage<'_>) -> ArrayVec<u8, 256>
 /// What the pools have for a page of 2 MiB of which this is known, if it lies nowhere.
 fn pooled_in<'a>(pools: &'a Pools, asked: AskedPage<'_>, spot: HugeSpot) -> Option<Pooled<'a>>
     ensures { IfSome result (λ pooled. pooled.giver ≡ giver pools.now (nodes_in
-        asked.space.now asked.touch.task asked.touch.cpu asked.page) pooled.is_reserved) }
+        asked.entry.space.now asked.entry.touch.task asked.entry.touch.cpu asked.entry.page)
+        pooled.is_reserved) }
 {
     if spot.node().is_some() {
         return None;
