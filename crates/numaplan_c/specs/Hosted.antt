@@ -1,6 +1,6 @@
 -- What the exported calls of pages of a host's processes answer and do.
-use Rattle.std.specs.Prelude.{◌≡◌, ℕ, Bool, true, false, Option, Some, None, Result, Ok, Err, List, Vec}
-use Rattle.std.specs.Prelude.{MatchResult}
+use Rattle.std.specs.Prelude.{◌≡◌, ℕ, Bool, true, false, Option, Some, None, Result, Ok, Err, List}
+use Rattle.std.specs.Prelude.{MatchResult, Vec}
 use Rattle.std.specs.Global.{Global}
 use Rattle.numa_host_script.specs.declared.running.RunningHost.{RunningHost}
 use Rattle.numa_pages.specs.declared.listing.PageRun.{PageRun}
@@ -18,12 +18,14 @@ use Rattle.numaplan_c.specs.Texts.{copy_code}
 use Rattle.numaplan_c.specs.declared.placed_moves.NpArrived.{NpArrived}
 use Rattle.numaplan_c.specs.declared.placed_moves.NpBound.{NpBound}
 use Rattle.numaplan_handles.specs.Handles.{host_in}
-use Rattle.numaplan_handles.specs.Hosted.{ChangesPages, TouchesIn}
+use Rattle.numaplan_handles.specs.Hosted.{ChangesPages, DoesHuge, DoesOwnHuge, TouchesIn}
 use Rattle.numaplan_handles.specs.Hosts.{OfRunning}
 use Rattle.numaplan_handles.specs.declared.flows.Flow.{Flow}
 use Rattle.numaplan_handles.specs.declared.flows.LastFlows.{LastFlows}
 use Rattle.numaplan_handles.specs.declared.host_handle.HostHandle.{HostHandle}
 use Rattle.numa_machine.specs.declared.no_memory.NoMemory.{NoMemory}
+use Rattle.numa_script.specs.declared.huge_line.HugeLine.{HugeLine}
+use Rattle.numa_script.specs.declared.huge_line.HugeLine.TheVariants as huge
 use Rattle.numa_script.specs.declared.page_line.PageLine.{PageLine}
 use Rattle.numa_script.specs.declared.page_line.PageLine.TheVariants as page
 
@@ -100,6 +102,24 @@ HostBindRead said bytes told old code new bound bound-then =
     MatchResult (bound_spec (host_rules_in (host_in old)) bytes said)
     (λ spec. HostBind (told spec) old code new bound bound-then)
     (λ fault. (code ≡ word_code fault) × (host_in new ≡ host_in old) × (bound-then ≡ bound))
+
+-- a line about pools or pages of 2 MiB of a process, or of none
+abbrev pub HugeDone : ℕ → HugeLine → HostHandle → ℕ → HostHandle → Type 0
+HugeDone process line old code new = HostDoes told_code (DoesHuge process line) old code new
+
+abbrev pub OwnHugeDone : HugeLine → HostHandle → ℕ → HostHandle → Type 0
+OwnHugeDone line old code new = HostDoes told_code (DoesOwnHuge line) old code new
+
+-- the node of a page that was touched is told; of another reply, what stood there stays
+abbrev pub TellsReached : ℕ → ℕ → Option Reply → Type 0
+TellsReached old new (Some (reply.MovedTo node)) = new ≡ node
+TellsReached old new _ = new ≡ old
+
+-- a call that touches one page of a process first
+abbrev pub HostFault : ℕ → ℕ → ℕ → ℕ → HostHandle → ℕ → HostHandle → ℕ → ℕ → Type 0
+HostFault process task address cpu old code new node node-then =
+    HostTell told_code (TellsReached node node-then) (node-then ≡ node)
+    (DoesHuge process (huge.Fault task address cpu)) old code new
 
 -- ---- questions to a process: 96 where it isn't there, and nothing is told
 

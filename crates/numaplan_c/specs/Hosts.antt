@@ -23,7 +23,7 @@ use Rattle.numaplan_c.specs.Border.{IsMachineOf, is_done}
 use Rattle.numa_script.specs.declared.reply.Reply.{Reply}
 use Rattle.numa_script.specs.declared.reply.Reply.TheVariants as reply
 use Rattle.numaplan_c.specs.Codes.{refusal_code}
-use Rattle.numaplan_c.specs.Placed.{move_code, placed_code}
+use Rattle.numaplan_c.specs.Placed.{huge_code, move_code, placed_code}
 use Rattle.numaplan_c.specs.Questions.{AreTold, choice_code}
 use Rattle.numaplan_c.specs.Ranges.{TellsRange}
 use Rattle.numaplan_c.specs.Standing.{TellsPolicy}
@@ -57,6 +57,7 @@ abbrev pub reply_code : Reply → ℕ
 reply_code (reply.HostRefused cause) = host_cause_code cause
 reply_code (reply.PlacedRefused cause) = placed_code cause
 reply_code (reply.MoveRefused cause) = move_code cause
+reply_code (reply.HugeRefused cause) = huge_code cause
 reply_code _ = 0
 
 -- where there is no reply, nothing is refused

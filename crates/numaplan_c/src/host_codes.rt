@@ -4,7 +4,7 @@ ghost use Rattle.numaplan_c.specs.Hosts.{host_cause_code, reply_code, told_code}
 ghost use Rattle.numaplan_c.specs.Placed.{done_code};
 
 use crate::codes::{code_by_name, refusal_code};
-use crate::placed_codes::{move_code, placed_code};
+use crate::placed_codes::{huge_code, move_code, placed_code};
 use numa_requests::{HostRefusal, Refusal};
 use numa_script::Reply;
 
@@ -28,6 +28,7 @@ pub(crate) fn reply_code(reply: &Reply) -> u32
         Reply::HostRefused(cause) => host_cause_code(*cause),
         Reply::PlacedRefused(cause) => placed_code(*cause),
         Reply::MoveRefused(cause) => move_code(*cause),
+        Reply::HugeRefused(cause) => huge_code(*cause),
         _ => 0,
     }
 }

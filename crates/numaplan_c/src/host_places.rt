@@ -136,8 +136,8 @@ pub extern "C" fn np_host_runs(
     ensures { Asked (host_in host.old) (host_in host.new) result
         ((room.new ≡ room.old) × (count.new ≡ count.old))
         (λ kept. (answer : Option (Result (Vec PageRun Global) NoMemory))
-        × OfLying (host_in host.old)
-        (OfPagesIn process (λ lying told. IfOk told (λ list. LieSo lying list.items)) answer)
+        × OfLying (host_in host.old) (OfPagesIn process
+        (λ lying memory told. IfOk told (λ list. LieSo lying memory list.items)) answer)
         × TellsRunsIn answer result room.old room.new count.old count.new) }
 {
     if_open!(host.page_runs(alloc, process), Code::NoSuchProcess, answer => match answer {
@@ -176,8 +176,9 @@ pub extern "C" fn np_host_moves(
     bound: &mut NpBound,
 ) -> u32
     ensures { AskedMoves host.old host.new result flows.old flows.new count.old count.new bound.old
-        bound.new (λ kept. (answer : Option (Result LastFlows NoMemory)) × OfLying (host_in host.old)
-        (OfPagesIn process (λ lying told. IfOk told (TellsLast lying)) answer)
+        bound.new (λ kept. (answer : Option (Result LastFlows NoMemory))
+        × OfLying (host_in host.old) (OfPagesIn process
+        (λ lying memory told. IfOk told (TellsLast lying memory)) answer)
         × TellsLastIn answer result flows.old flows.new count.old count.new bound.old
         bound.new) }
 {

@@ -16,6 +16,7 @@ mod host_codes;
 mod host_commands;
 mod host_pages;
 mod host_places;
+mod host_pools;
 mod host_questions;
 mod keeping;
 mod listings;

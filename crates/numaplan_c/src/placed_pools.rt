@@ -9,6 +9,7 @@ ghost use Rattle.numaplan_handles.specs.Handles.{pages_in};
 use crate::keeping::if_open;
 use crate::placed_codes::{changed_code, held_code};
 use numa_pages::HugeMapping;
+use numa_pools::Pools;
 use numa_requests::HugeRefusal;
 use numaplan_handles::PagesHandle;
 use std::alloc::Global;
@@ -26,6 +27,18 @@ pub struct NpHugePools {
 
 const _: () = prove!(size_of::<NpHugePools>() == 6152);
 
+/// What pools have, as C is told it.
+pub(crate) fn pools_told(found: &Pools) -> NpHugePools
+    ensures { HasPools result found.now }
+{
+    NpHugePools {
+        total: found.totals(),
+        free: found.all_free(),
+        surplus: found.surpluses(),
+        reserved: found.reserved(),
+    }
+}
+
 /// Returns what the pools have.
 #[unsafe(no_mangle)]
 pub extern "C" fn np_pages_pools(
@@ -37,12 +50,7 @@ pub extern "C" fn np_pages_pools(
         (λ kept. (result ≡ 0) × HasPools pools.new kept.huge.pools) }
 {
     if_open!(pages.pools(alloc), found => {
-        *pools = NpHugePools {
-            total: found.totals(),
-            free: found.all_free(),
-            surplus: found.surpluses(),
-            reserved: found.reserved(),
-        };
+        *pools = pools_told(&found);
         0
     })
 }

@@ -1,19 +1,23 @@
 //! What went where in the last move of a process, or of all processes of a host.
-ghost use Rattle.std.specs.Prelude.{◌≡◌, ◌==◌, ◌++◌, ◌<◌, ℕ, IfOk, Ok, if◌then◌else◌};
-ghost use Rattle.std.specs.Prelude.{slice_index};
+ghost use Rattle.std.specs.Prelude.{◌≡◌, ◌==◌, ◌++◌, ◌<◌, ℕ, IfOk, IsSomeAnd, MatchOption, None};
+ghost use Rattle.std.specs.Prelude.{Ok, Option, Some, if◌then◌else◌, slice_index};
 ghost use Rattle.numa_host_pages.specs.Homes.{HostLying};
 ghost use Rattle.numa_host_pages.specs.Standing.{HostLies};
-ghost use Rattle.numa_host_pages.specs.Summed.{flow_told, sent_last, sum_in};
+ghost use Rattle.numa_host_pages.specs.Summed.{both_pages, flow_told, sent_last, sum_in};
+ghost use Rattle.numa_huge.specs.Moves.{HugeMemory};
+ghost use Rattle.numa_huge.specs.Tallies.{HasTold, left_of, moved_of};
 ghost use Rattle.numa_page_state.specs.Lying.{LastMove, Told};
 ghost use Rattle.numa_page_state.specs.Sending.{flow_between};
 ghost use Rattle.numa_page_state.specs.Standing.{LastAs, TellsOf};
 ghost use Rattle.numa_placed.specs.Spots.{spot_at};
 ghost use Rattle.numaplan_handles.specs.Hosted.{TellsSent, all_flows, flow_at, flows_from};
+ghost use Rattle.numaplan_handles.specs.Hosted.{sent_with};
 
 use numa_host_pages::HostPages;
+use numa_huge::HugeLast;
 use numa_machine::NoMemory;
 use numa_page_state::between::flow_from;
-use numa_page_state::{Departures, Last};
+use numa_page_state::{Departures, Last, Shift};
 use numa_placed::Moved;
 use std::alloc::Global;
 
@@ -140,11 +144,8 @@ fn with_flows(
     }
 }
 
-/// What the last move of a process did.
-///
-/// # Errors
-/// `NoMemory`: out of memory.
-pub(crate) fn flows_of(alloc: Global, last: &Last) -> Result<LastFlows, NoMemory>
+/// What the last move of a process did to its pages of 4 KiB.
+fn small_flows(alloc: Global, last: &Last) -> Result<LastFlows, NoMemory>
     ensures { (done : LastMove) → LastAs last.now done
         → IfOk result (TellsSent (sent_last done)) }
 {
@@ -158,6 +159,107 @@ pub(crate) fn flows_of(alloc: Global, last: &Last) -> Result<LastFlows, NoMemory
             let added = add_departed(&mut flows, gone);
             with_flows(flows, added, gone.moved, gone.left)
         }
+    }
+}
+
+// ---- with pages of 2 MiB
+
+/// The pages of two lists by node, at most 2^64 - 1 each.
+pub(crate) fn both_rows(one: [u64; 256], other: &[u64; 256]) -> [u64; 256]
+    ensures { (node : ℕ) → node < 256 → slice_index result node
+        ≡ both_pages (slice_index one node) (slice_index other.now node) }
+{
+    let mut sum = one;
+    for node in 0..256usize {
+        sum[node] = sum[node].saturating_add(other[node]);
+    }
+    sum
+}
+
+/// How many pages of 4 KiB a move took along, and left.
+fn small_shift(last: &Last) -> Shift
+    ensures { (done : LastMove) → LastAs last.now done
+        → (result.moved ≡ (sent_last done).moved) × (result.left ≡ (sent_last done).left) }
+{
+    match last {
+        Last::Nodes(moved) => Shift {
+            moved: moved.moved,
+            left: moved.left,
+        },
+        Last::Pages(gone) => Shift {
+            moved: gone.moved,
+            left: gone.left,
+        },
+    }
+}
+
+/// How many pages of 4 KiB went from a node to each.
+fn small_row(last: &Last, from: u8) -> [u64; 256]
+    ensures { (done : LastMove) → LastAs last.now done → (to : ℕ) → to < 256
+        → slice_index result to ≡ (sent_last done).flow from to }
+{
+    match last {
+        Last::Nodes(moved) => to_one(moved.from[from as usize], moved.to[from as usize]),
+        Last::Pages(gone) => flow_from(&gone.before, &gone.after, from),
+    }
+}
+
+/// Adds what went where in a move of pages of both sizes.
+fn add_both(flows: &mut Vec<Flow>, last: &Last, huge: &HugeLast) -> Result<(), NoMemory>
+    ensures { (done : LastMove) (memory : HugeMemory) → LastAs last.now done
+        → HasTold huge.now memory.told → IfOk result (λ it. flows.new.items
+        ≡ flows.old.items ++ all_flows (sent_with (Some memory) (sent_last done)).flow) }
+{
+    for from in 0..256usize {
+        let row = both_rows(small_row(last, from as u8), &huge.flow_from(from as u8));
+        let Ok(()) = add_from(flows, from as u8, &row) else {
+            return Err(NoMemory);
+        };
+    }
+    Ok(())
+}
+
+/// How many pages of both sizes a move took along, and left, at most 2^64 - 1 each.
+fn both_shifts(small: Shift, huge: &HugeLast) -> Shift
+    ensures moved { result.moved ≡ both_pages small.moved (moved_of huge.now) }
+    ensures left { result.left ≡ both_pages small.left (left_of huge.now) }
+{
+    Shift {
+        moved: small.moved.saturating_add(huge.moved()),
+        left: small.left.saturating_add(huge.left()),
+    }
+}
+
+/// What a move of pages of both sizes did.
+fn both_flows(alloc: Global, last: &Last, huge: &HugeLast) -> Result<LastFlows, NoMemory>
+    ensures { (done : LastMove) (memory : HugeMemory) → LastAs last.now done
+        → HasTold huge.now memory.told
+        → IfOk result (TellsSent (sent_with (Some memory) (sent_last done))) }
+{
+    let mut flows = Vec::new(alloc);
+    let small = small_shift(last);
+    let sum = both_shifts(small, huge);
+    let added = add_both(&mut flows, last, huge);
+    with_flows(flows, added, sum.moved, sum.left)
+}
+
+/// What the last move of a process did to pages of 4 KiB, and to those of 2 MiB, if it has any.
+///
+/// # Errors
+/// `NoMemory`: out of memory.
+pub(crate) fn flows_of(
+    alloc: Global,
+    last: &Last,
+    huge: Option<&HugeLast>,
+) -> Result<LastFlows, NoMemory>
+    ensures { (done : LastMove) (memory : Option HugeMemory) → LastAs last.now done
+        → MatchOption huge.entry (memory ≡ None)
+        (λ it. IsSomeAnd memory (λ memory. HasTold it.now memory.told))
+        → IfOk result (TellsSent (sent_with memory (sent_last done))) }
+{
+    match huge {
+        Some(huge) => both_flows(alloc, last, huge),
+        None => small_flows(alloc, last),
     }
 }
 

@@ -1,18 +1,28 @@
 //! Stating where pages of a host's processes lie, touching them first, and moving them, through a
 //! handle.
-ghost use Rattle.std.specs.Prelude.{◌≡◌, true};
+ghost use Rattle.std.specs.Prelude.{◌≡◌, ◌<◌, ℕ, Option, slice_index, true};
+ghost use Rattle.numa_host_pages.specs.Summed.{both_pages};
 ghost use Rattle.numa_host_script.specs.Acting.{is_change};
+ghost use Rattle.numa_host_script.specs.Hosts.{Hosting};
+ghost use Rattle.numa_host_script.specs.Paging.{pages_at};
+ghost use Rattle.numa_host_script.specs.Standing.{RunsAs};
+ghost use Rattle.numa_huge.specs.Moves.{HugeArrival};
+ghost use Rattle.numa_huge.specs.Tallies.{HaveArrived};
+ghost use Rattle.numa_page_state.specs.Lying.{Arrival};
+ghost use Rattle.numa_page_state.specs.Standing.{ArrivedAs};
 ghost use Rattle.numaplan_handles.specs.Calls.{Calls};
 ghost use Rattle.numaplan_handles.specs.Handles.{host_in};
 ghost use Rattle.numaplan_handles.specs.Hosted.{Binds, ChangesPages, LetsFollow, LimitsAll};
-ghost use Rattle.numaplan_handles.specs.Hosted.{TouchesIn};
+ghost use Rattle.numaplan_handles.specs.Hosted.{CameWith, HasCome, TouchesIn};
 ghost use Rattle.numaplan_handles.specs.Hosts.{OfRunning};
 ghost use Rattle.numa_script.specs.declared.page_line.PageLine.{PageLine};
 
+use crate::flows::both_rows;
 use crate::handle::of_kept;
 use crate::host_handle::HostHandle;
 use crate::kept::Kept;
 use numa_host_script::RunningHost;
+use numa_huge::HugeArrived;
 use numa_mask::NodeMask;
 use numa_page_state::arrived::untouched;
 use numa_page_state::{Arrived, Rebinding, Toucher};
@@ -56,6 +66,53 @@ fn let_follow(running: &mut RunningHost, follows: bool)
     running.pages.set_follows(follows);
 }
 
+/// First touches of pages of both sizes, each counted once.
+fn both_arrived(small: &Arrived, huge: &HugeArrived) -> Arrived
+    ensures placed { result.placed ≡ both_pages small.now.placed huge.now.placed }
+    ensures exhausted { result.exhausted ≡ both_pages small.now.exhausted huge.now.exhausted }
+    ensures on { (node : ℕ) → node < 256 → slice_index result.on node
+        ≡ both_pages (slice_index small.now.on node) (slice_index huge.now.on node) }
+{
+    Arrived {
+        placed: small.placed.saturating_add(huge.placed),
+        exhausted: small.exhausted.saturating_add(huge.exhausted),
+        on: both_rows(small.on, &huge.on),
+    }
+}
+
+/// What the last first touches of pages of 4 KiB of a process did.
+fn small_arrived(running: &RunningHost, process: u32) -> Arrived
+    ensures { (at : Hosting) → RunsAs running.now at
+        → ArrivedAs result (pages_at at process).arrived }
+{
+    match running.pages_there(process) {
+        Some(state) => *state.arrived(),
+        None => untouched(),
+    }
+}
+
+/// With those of pages of 2 MiB, if a span had some.
+fn arrived_with(small: Arrived, huge: &Option<HugeArrived>) -> Arrived
+    ensures { (arrival : Arrival) (told : Option HugeArrival) → ArrivedAs small arrival
+        → HaveArrived huge.now told → CameWith told result arrival }
+{
+    match huge {
+        Some(huge) => both_arrived(&small, huge),
+        None => small,
+    }
+}
+
+/// What the last first touches of a process did.
+fn arrived_in(running: &RunningHost, process: u32) -> Arrived
+    ensures { (at : Hosting) → RunsAs running.now at → HasCome process result at }
+{
+    let small = small_arrived(running, process);
+    match running.huge_there(process) {
+        Some(kept) => arrived_with(small, &kept.arrived),
+        None => small,
+    }
+}
+
 /// Touches each page of a span of a process for the first time, and returns what that did.
 fn touched(
     running: &mut RunningHost,
@@ -77,10 +134,7 @@ fn touched(
     };
     match running.change(alloc, process, &line) {
         Some(refusal) => Err(refusal),
-        None => match running.pages_there(process) {
-            Some(state) => Ok(*state.arrived()),
-            None => Ok(untouched()),
-        },
+        None => Ok(arrived_in(running, process)),
     }
 }
 

@@ -1,17 +1,24 @@
 //! Where pages of a host's processes lie, and how many more each node takes, asked of a handle.
-ghost use Rattle.std.specs.Prelude.{◌≡◌, ℕ, IfOk, IfSome, MatchOption, None};
+ghost use Rattle.std.specs.Prelude.{◌≡◌, ◌<◌, ◌≤◌, ◌^◌, ℕ, IfOk, IfSome, IsSomeAnd, MatchOption};
+ghost use Rattle.std.specs.Prelude.{None, Option, slice_index};
 ghost use Rattle.numa_host_pages.specs.Homes.{HostLying};
 ghost use Rattle.numa_host_pages.specs.Standing.{HostLies};
 ghost use Rattle.numa_host_script.specs.Hosts.{Hosting};
-ghost use Rattle.numa_host_script.specs.Paging.{pages_at};
+ghost use Rattle.numa_host_script.specs.Paging.{memory_at, pages_at};
 ghost use Rattle.numa_host_script.specs.Standing.{RunsAs};
+ghost use Rattle.numa_huge.specs.Huge.{huge_at};
+ghost use Rattle.numa_huge.specs.Moves.{HugeMemory};
+ghost use Rattle.numa_huge.specs.Tallies.{HasTold};
 ghost use Rattle.numa_page_state.specs.Outcomes.{rooms_of};
+ghost use Rattle.numa_pages.specs.Listing.{AreListed};
 ghost use Rattle.numa_placed.specs.Spots.{spot_at};
+ghost use Rattle.numa_placed.specs.declared.spot.Spot.{Spot};
 ghost use Rattle.numa_placed.specs.declared.spot.Spot.TheVariants.{Nowhere};
 ghost use Rattle.numaplan_handles.specs.Calls.{Asks};
 ghost use Rattle.numaplan_handles.specs.Handles.{host_in};
 ghost use Rattle.numaplan_handles.specs.Hosted.{HasRoomLeft, LieAt, LieOn, LieSo, LiesOn};
 ghost use Rattle.numaplan_handles.specs.Hosted.{OfLying, OfPagesIn, TellsLast, TellsSum};
+ghost use Rattle.numaplan_handles.specs.Hosted.{spots_with};
 
 use crate::flows::{LastFlows, flows_of, sums_of};
 use crate::handle::of_kept;
@@ -19,10 +26,11 @@ use crate::host_handle::{HostHandle, running_kept};
 use crate::nodes_there::{node_there, write_nodes};
 use numa_host_pages::HostPages;
 use numa_host_script::RunningHost;
+use numa_huge::{HugeLast, HugePlaces};
 use numa_machine::NoMemory;
 use numa_page_state::Last;
 use numa_page_state::state::still;
-use numa_pages::{PageRun, list_runs};
+use numa_pages::{PageRun, counts_with, list_runs};
 use numa_placed::{Placed, lacks_node};
 use numa_requests::PlacedRefusal;
 use std::alloc::Global;
@@ -50,7 +58,7 @@ fn room_left(running: &RunningHost, node: u32) -> Result<u64, PlacedRefusal>
     Ok(room_on(&running.pages, node as u8))
 }
 
-/// Where the pages of a process lie, once one was touched or stated to lie somewhere.
+/// Where the pages of 4 KiB of a process lie, once one was touched or stated to lie somewhere.
 fn placed_in(running: &RunningHost, process: u32) -> Option<&Placed>
     ensures { (at : Hosting) → RunsAs running.now at → MatchOption result
         ((page : ℕ) → (pages_at at process).spots page ≡ Nowhere)
@@ -58,6 +66,18 @@ fn placed_in(running: &RunningHost, process: u32) -> Option<&Placed>
 {
     match running.pages_there(process) {
         Some(state) => Some(state.placed()),
+        None => None,
+    }
+}
+
+/// Where those of 2 MiB lie, once it mapped some from the pools.
+fn huge_in(running: &RunningHost, process: u32) -> Option<&HugePlaces>
+    ensures { (at : Hosting) → RunsAs running.now at → MatchOption result
+        (memory_at at process ≡ None) (λ it. IsSomeAnd (memory_at at process)
+        (λ memory. huge_at it.now.runs ≡ memory.pages.spots)) }
+{
+    match running.huge_there(process) {
+        Some(kept) => Some(&kept.places),
         None => None,
     }
 }
@@ -70,7 +90,9 @@ fn node_in(running: &RunningHost, process: u32, page: u64) -> Option<Option<u8>>
     let Some(_) = running.host.process(process) else {
         return None;
     };
-    Some(node_there(placed_in(running, process), page))
+    let placed = placed_in(running, process);
+    let huge = huge_in(running, process);
+    Some(node_there(placed, huge, page))
 }
 
 /// Writes the node on which each of these pages of a process lies, or the mark for one that lies
@@ -93,8 +115,22 @@ fn tell_nodes(
     if nodes.len() != count {
         return Some(Err(count));
     }
-    write_nodes(placed_in(running, process), numbers, nowhere, nodes);
+    let placed = placed_in(running, process);
+    let huge = huge_in(running, process);
+    write_nodes(placed, huge, numbers, nowhere, nodes);
     Some(Ok(count))
+}
+
+/// The number of pages of 4 KiB of a process that lie on each node.
+fn small_counts(running: &RunningHost, process: u32) -> [u64; 256]
+    ensures counts { (at : Hosting) → RunsAs running.now at
+        → LieOn (pages_at at process) None result }
+    ensures few { (node : ℕ) → node < 256 → slice_index result node ≤ 2 ^ 35 }
+{
+    match placed_in(running, process) {
+        Some(placed) => placed.counts(),
+        None => [0; 256],
+    }
 }
 
 /// The number of pages of a process that lie on each node.
@@ -104,9 +140,58 @@ fn counts_in(running: &RunningHost, process: u32) -> Option<[u64; 256]>
     let Some(_) = running.host.process(process) else {
         return None;
     };
-    match placed_in(running, process) {
-        Some(placed) => Some(placed.counts()),
-        None => Some([0; 256]),
+    let small = small_counts(running, process);
+    match huge_in(running, process) {
+        Some(huge) => Some(counts_with(&small, huge)),
+        None => Some(small),
+    }
+}
+
+/// The runs of pages that lie on one node, where none of 4 KiB lies anywhere.
+///
+/// # Errors
+/// `NoMemory`: out of memory.
+fn huge_runs(alloc: Global, huge: Option<&HugePlaces>) -> Result<Vec<PageRun>, NoMemory>
+    ensures { (memory : Option HugeMemory) (spots : ℕ → Spot)
+        → ((page : ℕ) → spots page ≡ Nowhere)
+        → MatchOption huge.entry (memory ≡ None) (λ it. IsSomeAnd memory
+        (λ memory. huge_at it.now.runs ≡ memory.pages.spots))
+        → IfOk result (λ list. AreListed (spots_with memory spots) 0 list.items) }
+{
+    let Some(huge) = huge else {
+        return Ok(Vec::new(alloc));
+    };
+    let placed = Placed::new(alloc)?;
+    let listed = list_runs(alloc, &placed, Some(huge));
+    drop(placed);
+    match listed {
+        Ok(list) => Ok(list),
+        Err(_) => Err(NoMemory),
+    }
+}
+
+/// The runs of pages that lie on one node.
+///
+/// # Errors
+/// `NoMemory`: out of memory.
+fn runs_there(
+    alloc: Global,
+    placed: Option<&Placed>,
+    huge: Option<&HugePlaces>,
+) -> Result<Vec<PageRun>, NoMemory>
+    ensures { (memory : Option HugeMemory) (spots : ℕ → Spot)
+        → MatchOption placed.entry ((p : ℕ) → spots p ≡ Nowhere)
+        (λ it. (p : ℕ) → spot_at it.now p ≡ spots p)
+        → MatchOption huge.entry (memory ≡ None) (λ it. IsSomeAnd memory
+        (λ memory. huge_at it.now.runs ≡ memory.pages.spots))
+        → IfOk result (λ list. AreListed (spots_with memory spots) 0 list.items) }
+{
+    let Some(placed) = placed else {
+        return huge_runs(alloc, huge);
+    };
+    match list_runs(alloc, placed, huge) {
+        Ok(list) => Ok(list),
+        Err(_) => Err(NoMemory),
     }
 }
 
@@ -117,17 +202,25 @@ fn runs_in(
     process: u32,
 ) -> Option<Result<Vec<PageRun>, NoMemory>>
     ensures { (at : Hosting) → RunsAs running.now at → OfPagesIn process
-        (λ lying answer. IfOk answer (λ list. LieSo lying list.items)) result at }
+        (λ lying memory answer. IfOk answer (λ list. LieSo lying memory list.items)) result at }
 {
     let Some(_) = running.host.process(process) else {
         return None;
     };
-    let Some(placed) = placed_in(running, process) else {
-        return Some(Ok(Vec::new(alloc)));
-    };
-    match list_runs(alloc, placed, None) {
-        Ok(list) => Some(Ok(list)),
-        Err(_) => Some(Err(NoMemory)),
+    let placed = placed_in(running, process);
+    let huge = huge_in(running, process);
+    Some(runs_there(alloc, placed, huge))
+}
+
+/// What the last move did to the pages of 2 MiB of a process, once it mapped some from the pools.
+fn last_huge(running: &RunningHost, process: u32) -> Option<&HugeLast>
+    ensures { (at : Hosting) → RunsAs running.now at → MatchOption result
+        (memory_at at process ≡ None) (λ it. IsSomeAnd (memory_at at process)
+        (λ memory. HasTold it.now memory.told)) }
+{
+    match running.huge_there(process) {
+        Some(kept) => Some(&kept.last),
+        None => None,
     }
 }
 
@@ -138,14 +231,15 @@ fn last_in(
     process: u32,
 ) -> Option<Result<LastFlows, NoMemory>>
     ensures { (at : Hosting) → RunsAs running.now at → OfPagesIn process
-        (λ lying answer. IfOk answer (TellsLast lying)) result at }
+        (λ lying memory answer. IfOk answer (TellsLast lying memory)) result at }
 {
     let Some(_) = running.host.process(process) else {
         return None;
     };
+    let huge = last_huge(running, process);
     match running.pages_there(process) {
-        Some(state) => Some(flows_of(alloc, state.last())),
-        None => Some(flows_of(alloc, &Last::Nodes(still()))),
+        Some(state) => Some(flows_of(alloc, state.last(), huge)),
+        None => Some(flows_of(alloc, &Last::Nodes(still()), huge)),
     }
 }
 
@@ -206,8 +300,8 @@ impl HostHandle {
         })
     }
 
-    /// The number of pages of a process that lie on each node; no answer if the process isn't
-    /// there. `None` if the handle is closed.
+    /// The number of pages of 4 KiB of a process that lie on each node, of which one of 2 MiB is
+    /// 512; no answer if the process isn't there. `None` if the handle is closed.
     pub fn page_counts(&mut self, alloc: Global, process: u32) -> Option<Option<[u64; 256]>>
         ensures { Asks (λ answer. OfLying (host_in self.old) (OfPagesIn process LieOn answer))
             (host_in self.old) result (host_in self.new) }
@@ -226,8 +320,8 @@ impl HostHandle {
         process: u32,
     ) -> Option<Option<Result<Vec<PageRun>, NoMemory>>>
         ensures { Asks (λ answer. OfLying (host_in self.old) (OfPagesIn process
-            (λ lying told. IfOk told (λ list. LieSo lying list.items)) answer)) (host_in self.old)
-            result (host_in self.new) }
+            (λ lying memory told. IfOk told (λ list. LieSo lying memory list.items)) answer))
+            (host_in self.old) result (host_in self.new) }
     {
         of_kept!(self.handle, alloc, kept => runs_in(running_kept(&kept), alloc, process))
     }
@@ -243,8 +337,8 @@ impl HostHandle {
         process: u32,
     ) -> Option<Option<Result<LastFlows, NoMemory>>>
         ensures { Asks (λ answer. OfLying (host_in self.old) (OfPagesIn process
-            (λ lying told. IfOk told (TellsLast lying)) answer)) (host_in self.old) result
-            (host_in self.new) }
+            (λ lying memory told. IfOk told (TellsLast lying memory)) answer)) (host_in self.old)
+            result (host_in self.new) }
     {
         of_kept!(self.handle, alloc, kept => last_in(running_kept(&kept), alloc, process))
     }

@@ -14,6 +14,7 @@ mod held;
 mod host_handle;
 mod host_pages;
 mod host_places;
+mod host_pools;
 mod host_questions;
 mod kept;
 mod nodes_there;

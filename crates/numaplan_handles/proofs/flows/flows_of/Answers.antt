@@ -1,15 +1,17 @@
-use Rattle.numaplan_handles.proofs.Flowing.{flows-departed, flows-moved}
+use Rattle.std.proofs.Common.{Option, subst, sym}
+use Rattle.std.specs.Prelude.{IfOk}
+use Rattle.numa_host_pages.specs.Summed.{sent_last}
+use Rattle.numa_huge.specs.Moves.{HugeMemory}
+use Rattle.numaplan_handles.specs.Hosted.{TellsSent, sent_with}
+use Rattle.numaplan_handles.proofs.BothSizes.{flows-both}
 use Rattle.numaplan_handles.proofs.flows.flows_of.Goals as goal
 
-pub returns-in-Nodes : goal.returns-in-Nodes
-returns-in-Nodes c = λ done tells.
-    flows-moved c.in-Nodes.moved c.args.last.now done c.in-Nodes.is tells c.with_flows.result
-    c.add_moved-added.result c.add_moved-added.new.flows.items c.new-flows.result.items c.new-flows.ensures.items
-    c.with_flows.ensures
-    c.add_moved-added.ensures
+pub returns-in-Some : goal.returns-in-Some
+returns-in-Some c = rw c.in-Some.is (λ done memory tells told.
+    flows-both memory c.in-Some.huge.now (sent_last done) c.both_flows.result told
+    (λ memory' told'. c.both_flows.ensures done memory' tells told'))
 
-pub returns-in-Pages : goal.returns-in-Pages
-returns-in-Pages c = λ done tells.
-    flows-departed c.in-Pages.gone c.args.last.now done c.in-Pages.is tells
-    c.with_flows-in-Pages.result c.add_departed-added.result c.add_departed-added.new.flows.items
-    c.new-flows.result.items c.new-flows.ensures.items c.with_flows-in-Pages.ensures c.add_departed-added.ensures
+pub returns-in-None : goal.returns-in-None
+returns-in-None c = rw c.in-None.is (λ done memory tells none.
+    subst (λ (m : Option HugeMemory). IfOk c.small_flows.result
+    (TellsSent (sent_with m (sent_last done)))) (sym none) (c.small_flows.ensures done tells))

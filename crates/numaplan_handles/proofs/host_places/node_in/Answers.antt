@@ -1,4 +1,4 @@
-use Rattle.numa_host_script.specs.Paging.{pages_at}
+use Rattle.numa_host_script.specs.Paging.{memory_at, pages_at}
 use Rattle.numaplan_handles.proofs.host_places.node_in.Goals as goal
 
 pub returns-in_default : goal.returns-in_default
@@ -7,5 +7,6 @@ returns-in_default c = λ at runs. c.in_default.ensures at.history runs.stands
 pub returns : goal.returns
 returns c = λ at runs. (
   (c.in-Some.ensures at.history runs.stands).0,
-  c.node_there.ensures (pages_at at c.args.process).spots (c.placed_in.ensures at runs),
+  c.node_there.ensures (pages_at at c.args.process).spots (memory_at at c.args.process)
+      (c.placed_in-placed.ensures at runs) (c.huge_in-huge.ensures at runs),
 )

@@ -1,4 +1,5 @@
 use Rattle.std.proofs.Common.{◌<◌, ◌∙◌, length, arith, length-set, refl}
+use Rattle.numaplan_handles.specs.Hosted.{spots_with}
 use Rattle.numaplan_handles.proofs.Noded.{noded_more}
 use Rattle.numaplan_handles.proofs.nodes_there.write_nodes.Goals as goal
 
@@ -8,9 +9,9 @@ loop-place-preserved c =
     omega (arith, c.loop-place.invariant.long, c.requires, c.loop-place-test.true) in
     record {
       long = length-set _ _ _ ∙ c.loop-place.invariant.long;
-      nodes = λ spots k are lt.
-          noded_more spots c.args.nowhere c.loop-place.place c.args.numbers.now
-          c.loop-place.nodes c.unwrap_or.result within
-          (λ j small. c.loop-place.invariant.nodes spots j are small)
-          (rw (c.unwrap_or.ensures, c.node_there.ensures spots are) refl) k lt;
+      nodes = λ spots memory k are huge lt.
+          noded_more (spots_with memory spots) c.args.nowhere c.loop-place.place
+          c.args.numbers.now c.loop-place.nodes c.unwrap_or.result within
+          (λ j small. c.loop-place.invariant.nodes spots memory j are huge small)
+          (rw (c.unwrap_or.ensures, c.node_there.ensures spots memory are huge) refl) k lt;
     }

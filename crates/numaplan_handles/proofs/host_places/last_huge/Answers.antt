@@ -1,0 +1,10 @@
+use Rattle.numa_host_script.specs.Paging.{memory_at}
+use Rattle.numaplan_handles.proofs.BothSizes.{kept-last}
+use Rattle.numaplan_handles.proofs.host_places.last_huge.Goals as goal
+
+pub returns-in-Some : goal.returns-in-Some
+returns-in-Some c = λ at runs.
+    kept-last (memory_at at c.args.process) c.in-Some.kept.now (c.in-Some.ensures at runs)
+
+pub returns-in-None : goal.returns-in-None
+returns-in-None c = λ at runs. c.in-None.ensures at runs
