@@ -344,8 +344,8 @@ uint32_t np_core_map(np_core *core, uint64_t start, uint64_t length, uint64_t of
  * All calls name and count pages of 4 KiB, of which such a page is 512, its parts; only
  * np_core_explain and its text count the index in pages of 2 MiB, and np_core_maps counts these.
  * Each part has the list of nodes that a kernel goes by for its page. But there are no pools (an
- * np_pages has them: np_pages_map_huge), and where pages are placed each part goes by itself, as in
- * no kernel: np_core_touch and all that workers do, np_core_fill and other calls with free pages,
+ * np_pages and an np_host have them: np_pages_map_huge, np_host_map_huge_for), and where pages are
+ * placed each part goes by itself, as in no kernel: np_core_touch and all that workers do, np_core_fill and other calls with free pages,
  * np_core_replay, and what an np_pages that copies this core says of these pages. */
 uint32_t np_core_map_huge(np_core *core, uint64_t start, uint64_t length, uint64_t offset);
 

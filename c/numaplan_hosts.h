@@ -19,6 +19,10 @@
  * v1 with memory_migrate), unless np_host_set_follows says otherwise. Pages that find no room stay:
  * that refuses no call.
  *
+ * Pages of 2 MiB are those that np_host_map_huge_for maps: they come from pools (hugetlb), which all
+ * processes share, and are as those of an np_pages (np_pages_map_huge). Where pages lie is said in
+ * pages of 4 KiB, of which one of 2 MiB is 512; what moves or comes counts once, whatever its size.
+ *
  * This is the language's part `host` (docs/SCRIPT.md), call by call. */
 #ifndef NUMAPLAN_HOSTS_H
 #define NUMAPLAN_HOSTS_H
@@ -112,7 +116,8 @@ uint32_t np_host_new_process(np_host *host, uint32_t process, uint32_t group);
 
 /* Makes the process `child` a copy of `parent`, in its group; then its task `task` has the policy
  * that the task `from` has in the parent (fork(2)). It keeps the policies of all tasks, where Linux
- * keeps one thread's. Its pages lie nowhere until it writes to them (np_host_populate).
+ * keeps one thread's. Its pages lie nowhere until it writes to them (np_host_populate), and of
+ * those of 2 MiB none is reserved.
  * NP_PROCESS_EXISTS, NP_NO_SUCH_PROCESS, NP_TOO_MANY_PROCESSES, NP_TOO_MANY_TASKS. */
 uint32_t np_host_fork(np_host *host, uint32_t parent, uint32_t child, uint32_t from,
                       uint32_t task);
@@ -121,8 +126,8 @@ uint32_t np_host_fork(np_host *host, uint32_t parent, uint32_t child, uint32_t f
  * follow. NP_NO_SUCH_PROCESS, NP_NO_SUCH_GROUP. Needs no memory. */
 uint32_t np_host_attach(np_host *host, uint32_t process, uint32_t group);
 
-/* Ends a process; its number is free, and its pages give their room back. NP_NO_SUCH_PROCESS. Needs
- * no memory. */
+/* Ends a process; its number is free, and its pages give their room back, those of 2 MiB what they
+ * took of the pools and had reserved there. NP_NO_SUCH_PROCESS. Needs no memory. */
 uint32_t np_host_exit(np_host *host, uint32_t process);
 
 /* Gives a node its weight for weighted interleaving, for every process, also those to come.
@@ -136,6 +141,9 @@ uint32_t np_host_set_weight(np_host *host, uint32_t node, uint32_t weight);
 
 uint32_t np_host_map(np_host *host, uint32_t process, uint64_t start, uint64_t length,
                      uint64_t offset);
+
+/* As np_core_map_huge: these pages come from no pool. Each is 512 pages here, which come and move
+ * apart. */
 uint32_t np_host_map_huge(np_host *host, uint32_t process, uint64_t start, uint64_t length,
                           uint64_t offset);
 
@@ -198,19 +206,56 @@ uint32_t np_host_mbind_moving_by(np_host *host, uint32_t process, uint64_t start
                                  uint32_t mode, const np_nodes *nodes, bool strict, uint32_t task,
                                  uint32_t cpu, np_bound *bound);
 
+/* ---- pages of 2 MiB, and the pools that they come from, which all processes share: as the calls of
+ * an np_pages (np_pages_pools and so on). NP_CLOSED first, of a process NP_NO_SUCH_PROCESS then */
+
+/* Writes what the pools have. */
+uint32_t np_host_pools(np_host *host, np_huge_pools *pools);
+
+/* Makes the pools of all nodes with memory have `count` pages together that aren't surplus, or that
+ * of one node, as np_pages_pool and np_pages_pool_node; whoever writes is allowed all nodes with
+ * memory. NP_NO_SUCH_POOL, NP_UNSURE of one node. Need no memory. */
+uint32_t np_host_pool(np_host *host, uint64_t count);
+uint32_t np_host_pool_node(np_host *host, uint32_t node, uint64_t count);
+
+/* The same where a process writes: fresh pages come on the nodes alone that it is allowed; and of
+ * the nodes of the policy of one of its tasks, as np_pages_pool_for: NP_NO_SUCH_CPU. Need no
+ * memory. */
+uint32_t np_host_pool_in(np_host *host, uint32_t process, uint64_t count);
+uint32_t np_host_pool_node_in(np_host *host, uint32_t process, uint32_t node, uint64_t count);
+uint32_t np_host_pool_for(np_host *host, uint32_t process, uint64_t count, uint32_t task,
+                          uint32_t cpu);
+
+/* Maps a span of a process as pages of 2 MiB that come from the pools, for a task, which reserves
+ * them or doesn't, as np_pages_map_huge. This is a command of the process. NP_COMMANDS_SPENT comes
+ * before NP_NO_SUCH_PROCESS; then 11 to 15; NP_NO_HUGE_PAGES, by which free surplus pages may end;
+ * NP_TOO_MANY_RANGES; NP_TOO_MANY_RUNS, NP_NO_MEMORY, which may come before 11 to 15. */
+uint32_t np_host_map_huge_for(np_host *host, uint32_t process, uint64_t start, uint64_t length,
+                              uint64_t offset, uint32_t task, bool reserve);
+
+/* Touches the page of an address of a process, of either size, for the first time, as
+ * np_pages_fault, and writes the node where it lies then. No command: the version stays. In this
+ * order: NP_NO_SUCH_CPU; NP_PAGE_UNMAPPED; NP_NO_MEMORY where none of its pages of 4 KiB was stated
+ * or touched yet; NP_NODES_FULL, or of a page of 2 MiB NP_NO_PAGE_FREE; NP_TOO_MANY_RUNS,
+ * NP_NO_MEMORY. */
+uint32_t np_host_fault(np_host *host, uint32_t process, uint32_t task, uint64_t address,
+                       uint32_t cpu, uint32_t *node);
+
 /* ---- where pages of one process lie: NP_CLOSED, NP_NO_SUCH_PROCESS, and what is named */
 
-/* Writes the node on which the page of an address lies. NP_NOT_PLACED where it lies nowhere. */
+/* Writes the node on which the page of an address lies, of either size. NP_NOT_PLACED where it lies
+ * nowhere. */
 uint32_t np_host_node(np_host *host, uint32_t process, uint64_t address, uint32_t *node);
 
 /* The same for an array of pages, as np_pages_nodes. NP_NO_ROOM. Needs no memory. */
 uint32_t np_host_nodes(np_host *host, uint32_t process, const uint64_t *numbers, size_t count,
                        uint8_t *nodes, size_t places, uint8_t nowhere);
 
-/* Counts, for each node, the pages that lie on it. */
+/* Counts, for each node, the pages of 4 KiB that lie on it, of which one of 2 MiB is 512. */
 uint32_t np_host_counts(np_host *host, uint32_t process, np_counts *counts);
 
-/* Writes the runs of pages that lie on one node, as np_pages_runs. NP_NO_ROOM, NP_NO_MEMORY. */
+/* Writes the runs of pages that lie on one node, over pages of both sizes, as np_pages_runs.
+ * NP_NO_ROOM, NP_NO_MEMORY. */
 uint32_t np_host_runs(np_host *host, uint32_t process, np_page_run *runs, size_t room,
                       size_t *count);
 
@@ -218,8 +263,9 @@ uint32_t np_host_runs(np_host *host, uint32_t process, np_page_run *runs, size_t
  * of np_host_set_group_mems, np_host_unset_group_mems or np_host_attach where it came to be allowed
  * other nodes by one. Writes to `bound` how many pages went and how many had to and stayed (and
  * error number 0), and from which node how many went to which, in ascending order of both, at the
- * start of `flows`, and how many of these there are to `count`. NP_NO_ROOM where `room` is less:
- * then `count` is what is needed, and `flows` is as it was. NP_NO_MEMORY. */
+ * start of `flows`, and how many of these there are to `count`. Each page counts once, whatever its
+ * size. NP_NO_ROOM where `room` is less: then `count` is what is needed, and `flows` is as it was.
+ * NP_NO_MEMORY. */
 uint32_t np_host_moves(np_host *host, uint32_t process, np_flow *flows, size_t room, size_t *count,
                        np_bound *bound);
 

@@ -10,10 +10,10 @@ from ._causes import NoRoom, NotPlaced
 from ._cores import Policy, Range, by_node, policy_of
 from ._judged import Nodes, Numbers, list_of, places_for, u8, u32, u64, u64s_to_read
 from ._library import Limits, NodeSet, PagesInRow, Span, StandingPolicy, ToldArrived, ToldBound
-from ._library import ToldFlow, ToldGroup, ToldProcess
+from ._library import ToldFlow, ToldGroup, ToldPools, ToldProcess
 from ._machines import description, options_of, read_hardware
 from ._owners import Owner, counted
-from ._pages import ENDLESS, Arrived, Bound, Moved, PageRun
+from ._pages import ENDLESS, Arrived, Bound, HugePools, Moved, PageRun, pools_of
 from ._plans import Plan
 
 if TYPE_CHECKING:
@@ -41,7 +41,8 @@ class Host(Owner):
     does that is given the commands which the process has accepted: its own, its parent's up to the
     fork, each weight, and a change of the allowed nodes whenever its group's have changed. Its pages
     lie where it is stated, or a task of it touches them first, and follow the allowed nodes; all
-    processes take the same rooms of nodes."""
+    processes take the same rooms of nodes. Pages of 2 MiB are those of `map_huge`: they come from
+    pools, which all processes share, and are as those of a Pages."""
 
     _kind = "host"
 
@@ -176,7 +177,7 @@ class Host(Owner):
     def map(self, process: int, start: int, length: int, offset: "int | None" = None, *,
             huge: bool = False) -> None:
         """Maps `length` bytes of unmapped pages of a process from address `start` on, with `huge`
-        as pages of 2 MiB; as Core.map."""
+        as pages of 2 MiB that come from no pool; as Core.map."""
         number, start = u32("process", process), u64("start", start)
         if offset is None:
             offset = 0 if huge else start // 4096
@@ -299,9 +300,56 @@ class Host(Owner):
              u32("task", task), u32("cpu", cpu), byref(told))
         return Bound(told.moved, told.left, told.error)
 
+    # ---- pages of 2 MiB, and the pools that they come from, which all processes share
+
+    def pools(self) -> HugePools:
+        """What the pools of pages of 2 MiB have."""
+        told = ToldPools()
+        self._call("host_pools", byref(told))
+        return pools_of(told)
+
+    def resize_pools(self, count: int, process: "int | None" = None) -> None:
+        """Makes the pools of all nodes with memory have `count` pages together; as
+        Pages.resize_pools. Where a process writes it, fresh ones come on the nodes alone that it is
+        allowed; else on all with memory."""
+        if process is None:
+            self._call("host_pool", u64("count", count))
+        else:
+            self._call("host_pool_in", u32("process", process), u64("count", count))
+
+    def resize_pool(self, node: int, count: int, process: "int | None" = None) -> None:
+        """The same of one node; as Pages.resize_pool."""
+        if process is None:
+            self._call("host_pool_node", u32("node", node), u64("count", count))
+        else:
+            self._call("host_pool_node_in", u32("process", process), u32("node", node),
+                 u64("count", count))
+
+    def resize_pools_for(self, process: int, count: int, task: int = 0, cpu: int = 0) -> None:
+        """The same of the nodes of the policy of a task of a process; as Pages.resize_pools_for."""
+        self._call("host_pool_for", u32("process", process), u64("count", count),
+             u32("task", task), u32("cpu", cpu))
+
+    def map_huge(self, process: int, start: int, length: int, offset: int = 0, *, task: int = 0,
+                 reserve: bool = True) -> None:
+        """Maps a span of a process as pages of 2 MiB that come from the pools, for a task; as
+        Pages.map_huge."""
+        self._call("host_map_huge_for", u32("process", process), u64("start", start),
+             u64("length", length), u64("offset", offset), u32("task", task), reserve)
+
+    def fault(self, process: int, address: int, task: int = 0, cpu: int = 0) -> int:
+        """Touches the page of an address of a process, of either size, for the first time, as a task
+        on the node `cpu` does that writes to it: the node where it lies then; as Pages.fault."""
+        node = c_uint32()
+        self._call("host_fault", u32("process", process), u32("task", task),
+             u64("address", address), u32("cpu", cpu), byref(node))
+        return node.value
+
+    # ---- where pages lie
+
     def node_of(self, process: int, address: int) -> "int | None":
-        """The node on which the page of an address of a process lies; None where it lies
-        nowhere."""
+        """The node on which the page of an address of a process lies, of either size; None where it
+        lies nowhere."""
         node = c_uint32()
         try:
             self._call("host_node", u32("process", process), u64("address", address), byref(node))
@@ -327,14 +375,15 @@ class Host(Owner):
         return into
 
     def counts(self, process: int) -> dict[int, int]:
-        """How many pages of a process lie on each node that has some."""
+        """How many pages of 4 KiB of a process lie on each node that has some; one of 2 MiB counts
+        as 512."""
         counts = (c_uint64 * 256)()
         self._call("host_counts", u32("process", process), byref(counts))
         return by_node(counts)
 
     def runs(self, process: int) -> list[PageRun]:
-        """The runs of pages of a process that lie on one node, in order of address and as long as
-        they can be."""
+        """The runs of pages of 4 KiB of a process that lie on one node, in order of address and as
+        long as they can be; one of 2 MiB is 512 of them."""
         number, count, room = u32("process", process), c_size_t(), 64
         while True:
             found = (PagesInRow * room)()

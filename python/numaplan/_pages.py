@@ -44,6 +44,12 @@ class HugePools(NamedTuple):
     reserved: int
 
 
+def pools_of(told: ToldPools) -> HugePools:
+    """What the library told of pools."""
+    rows = enumerate(zip(told.total, told.free, told.surplus))
+    return HugePools({node: HugePool(*row) for node, row in rows if any(row)}, told.reserved)
+
+
 class Moved(NamedTuple):
     """What a move did: how many pages went to another node, how many had a node to go to and stayed,
     since a node was full, and how many went from which node to which. Each page counts once, whatever
@@ -263,8 +269,7 @@ class Pages(Owner):
         """What the pools of pages of 2 MiB have."""
         told = ToldPools()
         self._call("pages_pools", byref(told))
-        rows = enumerate(zip(told.total, told.free, told.surplus))
-        return HugePools({node: HugePool(*row) for node, row in rows if any(row)}, told.reserved)
+        return pools_of(told)
 
     def resize_pools(self, count: int) -> None:
         """Makes the pools of all nodes with memory have `count` pages together that aren't surplus, as a

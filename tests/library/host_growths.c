@@ -64,6 +64,7 @@ struct seen {
     size_t flows_of_all;
     np_flow flow_of_all[RUNS];
     uint64_t room[4];
+    np_huge_pools pools;
 };
 
 static void see(np_host *one, struct seen *seen) {
@@ -78,6 +79,7 @@ static void see(np_host *one, struct seen *seen) {
     }
     for (uint32_t node = 0; node < 4; node++)
         np_host_room(one, node, &seen->room[node]);
+    np_host_pools(one, &seen->pools);
     np_host_moves_of_all(one, seen->flow_of_all, RUNS, &seen->flows_of_all, &seen->all);
     np_host_processes(one, &seen->processes);
     for (size_t k = 0; k < seen->processes && k < PROCESSES; k++) {
@@ -108,6 +110,7 @@ static uint32_t call(int which) {
     np_flow flows[RUNS];
     np_page_run runs[RUNS];
     size_t count;
+    uint32_t node;
     switch (which) {
     case 0: return np_host_open(&host, TEXT("0-3"), frames, 4, far, 16, &limits, &options);
     case 1: return np_host_new_group(&host, 5, 0);
@@ -143,14 +146,37 @@ static uint32_t call(int which) {
     case 30: return np_host_attach(&host, 2, 0);
     case 31: return np_host_exit(&host, 1);
     case 32: return np_host_unset_group_mems(&host, 6);
+    case 33: return np_host_pool_node(&host, 1, 3);
+    case 34: return np_host_pool_in(&host, 2, 5);
+    case 35: return np_host_pool_node_in(&host, 2, 0, 2);
+    case 36: return np_host_pool(&host, 6);
+    case 37: return np_host_pool_for(&host, 2, 5, 7, 0);
+    case 38: return np_host_map_huge_for(&host, 2, 0x800000, 0x400000, 0, 7, true);
+    case 39: return np_host_map_huge_for(&host, 2, 0x1000000, 0x200000, 0, 7, false);
+    case 40: return np_host_fault(&host, 2, 7, 0x800000, 0, &node);
+    case 41: return np_host_fault(&host, 2, 7, 0x13000, 0, &node);
+    case 42: return np_host_new_process(&host, 3, 0);
+    case 43: return np_host_map(&host, 3, 0x10000, 0x2000, 0x10);
+    case 44: return np_host_fault(&host, 3, 7, 0x10000, 0, &node);
+    case 45: return np_host_populate(&host, 2, 0x800000, 0x400000, 7, 0, &arrived);
+    case 46: return np_host_fork(&host, 2, 4, 7, 7);
+    case 47: return np_host_unmap(&host, 2, 0xa00000, 0x200000);
+    case 48: return np_host_fault(&host, 4, 7, 0x800000, 0, &node);
+    case 49: return np_host_runs(&host, 4, runs, RUNS, &count);
+    case 50: return np_host_moves(&host, 2, flows, RUNS, &count, &bound);
+    case 51: return np_host_mbind_moving(&host, 2, 0x800000, 0x200000, TEXT("bind:3"), true, 7, 0,
+                                         &bound);
+    case 52: return np_host_migrate(&host, 2, TEXT("0-3"), TEXT("0"), &bound);
+    case 53: return np_host_attach(&host, 2, 6);
+    case 54: return np_host_exit(&host, 4);
     default: return NP_UNKNOWN;
     }
 }
-enum { CALLS = 33 };
+enum { CALLS = 55 };
 
 /* Whether the header says that a call needs no memory. */
 static bool is_free(int which) {
-    return which == 3 || which == 10 || which >= 27;
+    return which == 3 || which == 10 || (which >= 27 && which <= 37) || which >= 53;
 }
 
 /* Makes the calls of a round; each is first refused each of its growths. How many were refused, -1

@@ -36,30 +36,46 @@ def number(word):
     return int(word, 16 if word.startswith("0x") else 10)
 
 
+def described(machine, rules, cpus, limits):
+    """What a Core or a Host is opened with, by a line `machine` and those before it."""
+    words = machine.split()
+    nodes, rows = int(words[1]), " ".join(words[4:])
+    orders = "kernel" if rows.startswith("kernel:") else "nearest"
+    rows = rows.removeprefix("kernel:")
+    told = [10 if at % (nodes + 1) == 0 else 20 for at in range(nodes * nodes)]
+    if rows != "flat":
+        told = [int(distance) for distance in re.split("[,;]", rows)]
+    rows = [told[at:at + nodes] for at in range(0, nodes * nodes, nodes)]
+    return {"frames": [0] * nodes, "distances": rows, "memory": words[2], "rules": rules,
+            "orders": orders, "cpus": cpus if orders == "kernel" else None, **limits}
+
+
+def pool_line(pools, memory):
+    """The answer to `pool`, of these nodes with memory."""
+    texts = []
+    for node in memory:
+        total, free, surplus = pools.nodes.get(node, (0, 0, 0))
+        texts.append(f" N{node}={free}/{total}" + f"+{surplus}" * (surplus > 0))
+    return "pool" + "".join(texts) + f" reserved {pools.reserved}"
+
+
+def renamed(cause):
+    """A cause, as a script names it."""
+    name = type(cause).__name__
+    return f"refused {NAMES.get(name, name)}"
+
+
 class Played:
     """A Pages, to which lines of a script are given as calls."""
 
     def __init__(self, machine, rules, cpus, limits):
-        words = machine.split()
-        nodes, rows = int(words[1]), " ".join(words[4:])
-        orders = "kernel" if rows.startswith("kernel:") else "nearest"
-        rows = rows.removeprefix("kernel:")
-        told = [10 if at % (nodes + 1) == 0 else 20 for at in range(nodes * nodes)]
-        if rows != "flat":
-            told = [int(distance) for distance in re.split("[,;]", rows)]
-        rows = [told[at:at + nodes] for at in range(0, nodes * nodes, nodes)]
-        with Core([0] * nodes, rows, memory=words[2], rules=rules, orders=orders,
-                  cpus=cpus if orders == "kernel" else None, **limits) as core:
+        with Core(**described(machine, rules, cpus, limits)) as core:
             self.pages = Pages(core)
-        self.memory, self.follows = sorted(numaplan.nodes(words[2])), False
+        self.memory, self.follows = sorted(numaplan.nodes(machine.split()[2])), False
 
     def pools(self):
         """The answer to `pool`."""
-        pools, texts = self.pages.pools(), []
-        for node in self.memory:
-            total, free, surplus = pools.nodes.get(node, (0, 0, 0))
-            texts.append(f" N{node}={free}/{total}" + f"+{surplus}" * (surplus > 0))
-        return "pool" + "".join(texts) + f" reserved {pools.reserved}"
+        return pool_line(self.pages.pools(), self.memory)
 
     def accepted(self):
         return f"ok {self.pages.version}"
@@ -125,8 +141,7 @@ class Played:
         try:
             return self.call(line)
         except numaplan.Refused as cause:
-            name = type(cause).__name__
-            return f"refused {NAMES.get(name, name)}"
+            return renamed(cause)
 
 
 def shown(line, answer):
@@ -222,4 +237,5 @@ def main():
     sys.exit(bool(wrong))
 
 
-main()
+if __name__ == "__main__":
+    main()

@@ -46,6 +46,7 @@ static np_bound bound;
 static np_arrived arrived;
 static np_page_run told[8];
 static size_t count;
+static uint32_t node;
 
 /* What is seen of a core with its pages. */
 struct seen {
@@ -56,6 +57,7 @@ struct seen {
     np_range range[8];
     uint8_t word[8][32];
     np_policy policy;
+    np_huge_pools pools;
 };
 
 static void see(np_pages *one, struct seen *seen) {
@@ -67,8 +69,9 @@ static void see(np_pages *one, struct seen *seen) {
     np_pages_version(one, &seen->version);
     np_pages_counts(one, &seen->counts);
     np_pages_runs(one, seen->runs, 8, &seen->run_count);
-    for (uint32_t node = 0; node < 4; node++)
-        np_pages_room(one, node, &seen->rooms[node]);
+    np_pages_pools(one, &seen->pools);
+    for (uint32_t k = 0; k < 4; k++)
+        np_pages_room(one, k, &seen->rooms[k]);
     if (np_pages_core(one, &within) == NP_OK) {
         np_core_ranges(&within, &seen->ranges);
         np_core_task_policy(&within, 7, &seen->policy);
@@ -124,14 +127,29 @@ static uint32_t call(int which) {
     case 33: return np_pages_set_home(&pages, 0x10000, 0, 3);
     case 34: return np_pages_set_task(&pages, 8, TEXT("default"));
     case 35: return np_pages_nodes(&pages, numbers, 2, nodes, 2, 255);
+    case 36: return np_pages_pool_node(&pages, 2, 3);
+    case 37: return np_pages_pool_node(&pages, 1, 1);
+    case 38: return np_pages_map_huge(&pages, 0x400000, 0x600000, 0, 7, true);
+    case 39: return np_pages_map_huge(&pages, 0xa00000, 0x200000, 512, 7, false);
+    case 40: return np_pages_fault(&pages, 7, 0x400000, 0, &node);
+    case 41: return np_pages_map(&pages, 0x30000, 0x2000, 0x30);
+    case 42: return np_pages_fault(&pages, 7, 0x31000, 0, &node);
+    case 43: return np_pages_populate(&pages, 0x600000, 0x200000, 7, 0, &arrived);
+    case 44:
+        return np_pages_mbind_moving(&pages, 0x400000, 0x400000, TEXT("bind:0"), true, 7, 0,
+                                     &bound);
+    case 45: return np_pages_unmap(&pages, 0x600000, 0x200000);
+    case 46: return np_pages_pool(&pages, 6);
+    case 47: return np_pages_pool_for(&pages, 4, 7, 0);
     default: return NP_UNKNOWN;
     }
 }
-enum { CALLS = 36 };
+enum { CALLS = 48 };
 
 /* Whether the header says that a call needs no memory. */
 static bool is_free(int which) {
-    return (6 <= which && which <= 9) || which == 15 || which == 22 || which == 26 || 30 <= which;
+    return (6 <= which && which <= 9) || which == 15 || which == 22 || which == 26 ||
+           (30 <= which && which <= 37) || 46 <= which;
 }
 
 /* Whether two sights are the same. */
@@ -152,6 +170,7 @@ static long play(void) {
             memset(&moves, 9, sizeof moves);
             memset(&bound, 9, sizeof bound);
             memset(&arrived, 9, sizeof arrived);
+            memset(&node, 9, sizeof node);
             left = growth;
             code = call(which);
             left = -1;
@@ -159,7 +178,8 @@ static long play(void) {
             see(&copy, &then);
             bool same = is_same(&before, &after) && is_same(&of_copy, &then);
             bool untold = moves.moved == UINT64_C(0x0909090909090909) &&
-                          bound.moved == moves.moved && arrived.placed == moves.moved;
+                          bound.moved == moves.moved && arrived.placed == moves.moved &&
+                          node == UINT32_C(0x09090909);
             bool well = code == NP_NO_MEMORY ? same && untold && !is_free(which) : code == NP_OK;
             if (!well) {
                 printf("call %d, growth %ld: %u, %s\n", which, growth, code,

@@ -238,7 +238,7 @@ impl Host {
         })
     }
 
-    /// How many pages of a process lie on each node.
+    /// How many pages of 4 KiB of a process lie on each node, of which one of 2 MiB is 512.
     ///
     /// # Errors
     /// `NO_SUCH_PROCESS`.
@@ -248,7 +248,8 @@ impl Host {
         Ok(counts.pages)
     }
 
-    /// The runs of pages of a process that lie on one node, in order of address and as long as they can be.
+    /// The runs of pages of 4 KiB of a process that lie on one node, in order of address and as long as they
+    /// can be; one of 2 MiB is 512 of them.
     ///
     /// # Errors
     /// `NO_SUCH_PROCESS`, `NO_MEMORY`.

@@ -251,7 +251,7 @@ impl Host {
         done(unsafe { raw::np_host_map(&mut self.0, process, start, length, offset) })
     }
 
-    /// Maps a span of unmapped pages of a process as pages of 2 MiB; as
+    /// Maps a span of unmapped pages of a process as pages of 2 MiB that come from no pool; as
     /// [`Core::map_huge`](crate::Core::map_huge).
     ///
     /// # Errors

@@ -348,6 +348,14 @@ extern "C" {
     pub(crate) fn np_host_mbind_strictly_by(host: &mut Handle, process: u32, start: u64, length: u64, mode: u32, nodes: &Nodes) -> u32;
     pub(crate) fn np_host_mbind_moving_by(host: &mut Handle, process: u32, start: u64, length: u64, mode: u32, nodes: &Nodes, strict: bool, task: u32, cpu: u32, bound: &mut ToldBound) -> u32;
     pub(crate) fn np_host_mbind_moving(host: &mut Handle, process: u32, start: u64, length: u64, policy: *const u8, policy_length: usize, strict: bool, task: u32, cpu: u32, bound: &mut ToldBound) -> u32;
+    pub(crate) fn np_host_pools(host: &mut Handle, pools: &mut ToldPools) -> u32;
+    pub(crate) fn np_host_pool(host: &mut Handle, count: u64) -> u32;
+    pub(crate) fn np_host_pool_node(host: &mut Handle, node: u32, count: u64) -> u32;
+    pub(crate) fn np_host_pool_in(host: &mut Handle, process: u32, count: u64) -> u32;
+    pub(crate) fn np_host_pool_node_in(host: &mut Handle, process: u32, node: u32, count: u64) -> u32;
+    pub(crate) fn np_host_pool_for(host: &mut Handle, process: u32, count: u64, task: u32, cpu: u32) -> u32;
+    pub(crate) fn np_host_map_huge_for(host: &mut Handle, process: u32, start: u64, length: u64, offset: u64, task: u32, reserve: bool) -> u32;
+    pub(crate) fn np_host_fault(host: &mut Handle, process: u32, task: u32, address: u64, cpu: u32, node: &mut u32) -> u32;
     pub(crate) fn np_host_node(host: &mut Handle, process: u32, address: u64, node: &mut u32) -> u32;
     pub(crate) fn np_host_nodes(host: &mut Handle, process: u32, numbers: *const u64, count: usize, nodes: *mut u8, places: usize, nowhere: u8) -> u32;
     pub(crate) fn np_host_counts(host: &mut Handle, process: u32, counts: &mut Counts) -> u32;
