@@ -1,5 +1,5 @@
 //! Hosts by the Rust wrapper: the lines of docs/SCRIPT.md. Not proved.
-use numaplan::{Bound, Flow, Group, Host, Options, PageRun, Process, Refused};
+use numaplan::{Bound, Flow, Group, Host, Options, Orders, PageRun, Process, Refused, Rules};
 
 const FLAT: [u8; 16] = [10, 20, 20, 20, 20, 10, 20, 20, 20, 20, 10, 20, 20, 20, 20, 10];
 
@@ -84,5 +84,48 @@ fn main() -> Result<(), Refused> {
     let refused = std::thread::spawn(move || host.choice(1, 8, 16, 0)).join().unwrap();
     assert_eq!(refused, Err(Refused::UNMAPPED));
     assert_eq!(copy.choice(1, 7, 16, 0), Err(Refused::NO_SUCH_PROCESS));
+    pooled()
+}
+
+/// Pools that two processes share: rows that two kernels answered (tests/worked/hosts), and behind them sizes
+/// of pools as the host and as a process writes them.
+fn pooled() -> Result<(), Refused> {
+    const AT: u64 = 0x2_4000_0000;
+    const TWO: u64 = 1 << 21;
+    let far = [10, 12, 20, 22, 12, 10, 20, 21, 20, 20, 10, 13, 22, 21, 13, 10];
+    let options = Options { rules: Rules::Linux, orders: Orders::Kernel { cpus: None } };
+    let mut host = Host::open("0-3", &[0; 4], &far, options)?;
+    for (node, count) in [(0, 3), (1, 2), (3, 4)] {
+        host.resize_pool(node, count)?;
+    }
+    host.new_process(1, 0)?;
+    host.new_process(2, 0)?;
+    host.set_task(1, 1, "bind:0")?;
+    assert_eq!(host.map_huge_for(1, AT, 4 * TWO, 0, 1, true), Err(Refused::NO_HUGE_PAGES));
+    host.map_huge_for(1, AT, 3 * TWO, 0, 1, true)?;
+    host.set_task(1, 1, "default")?;
+    assert_eq!((host.fault(1, 1, AT, 3)?, host.fault(1, 1, AT + TWO, 3)?), (3, 3));
+    let pools = host.pools();
+    assert_eq!((&pools.total[..4], &pools.free[..4]), (&[3, 2, 0, 4][..], &[3, 2, 0, 2][..]));
+    assert_eq!((pools.surplus, pools.reserved), ([0; 256], 1));
+    assert_eq!((host.counts(1)?[3], host.node_of(1, AT + TWO - 1)?), (1024, Some(3)));
+    assert_eq!(host.runs(1)?, [PageRun { first: AT / 4096, pages: 1024, node: 3 }]);
+    assert_eq!(host.map_huge_for(2, AT, 7 * TWO, 0, 1, true), Err(Refused::NO_HUGE_PAGES));
+    host.map_huge_for(2, AT, 6 * TWO, 0, 1, true)?;
+    host.new_group(5, 0)?;
+    host.set_group_mems(5, "2")?;
+    host.attach(2, 5)?;
+    host.resize_pools_in(2, 12)?;
+    assert_eq!(host.pools().total[..4], [3, 2, 3, 4]);
+    host.resize_pool_in(2, 0, 4)?;
+    assert_eq!(host.pools().total[..4], [3, 2, 3, 4]);
+    host.resize_pool(0, 4)?;
+    assert_eq!(host.pools().total[..4], [4, 2, 3, 4]);
+    host.resize_pools(14);
+    assert_eq!(host.pools().total.iter().sum::<u64>(), 14);
+    assert_eq!(host.resize_pools_for(2, 9, 1, 4), Err(Refused::NO_SUCH_CPU));
+    host.exit(1)?;
+    assert_eq!((host.pools().free.iter().sum::<u64>(), host.pools().reserved), (14, 6));
+    assert_eq!(host.resize_pools_in(1, 9), Err(Refused::NO_SUCH_PROCESS));
     Ok(())
 }
