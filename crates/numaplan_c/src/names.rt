@@ -5,10 +5,10 @@ ghost use Rattle.numaplan_c.specs.Names.{call_names, fault_names, late_names, na
 ghost use Rattle.numaplan_c.specs.Names.{refusal_numbered, row_of};
 ghost use Rattle.numaplan_c.specs.Names.{host_errno_number, host_numbered, other_errno};
 ghost use Rattle.numaplan_c.specs.Names.{placed_errno};
-ghost use Rattle.numaplan_c.specs.Texts.{IsWritten};
+ghost use Rattle.numaplan_c.specs.Texts.{IsTold};
 
 use crate::codes::Code;
-use crate::texts::write;
+use crate::texts::write_told;
 use numa_requests::{
     Errno, HostErrno, HostRefusal, HugeRefusal, MoveRefusal, PlacedRefusal, Refusal,
 };
@@ -173,16 +173,9 @@ fn answer_name(code: u32) -> &'static [u8]
 /// Writes the name of a result code.
 #[unsafe(no_mangle)]
 pub extern "C" fn np_answer_name(code: u32, room: &mut [u8], length: &mut usize) -> u32
-    ensures known { answer_name code ≢ [] →
-        IsWritten (answer_name code) result room.old room.new length.new }
-    ensures unknown { answer_name code ≡ [] → (result ≡ 5) × (room.new ≡ room.old)
-        × (length.new ≡ length.old) }
+    ensures { IsTold (answer_name code) result room.old room.new length.old length.new }
 {
-    let name = answer_name(code);
-    if name.is_empty() {
-        return Code::Unknown as u32;
-    }
-    write(name, room, length)
+    write_told(answer_name(code), room, length)
 }
 
 /// The number of an error (errno(3)).

@@ -1,6 +1,6 @@
 //! Copying texts into a caller's buffer.
 ghost use Rattle.std.specs.Prelude.{◌≡◌};
-ghost use Rattle.numaplan_c.specs.Texts.{IsWritten, copy_code, length_copied};
+ghost use Rattle.numaplan_c.specs.Texts.{IsTold, IsWritten, copy_code, length_copied};
 
 use crate::codes::Code;
 use numaplan_handles::copy_items;
@@ -32,4 +32,14 @@ pub(crate) fn write(text: &[u8], room: &mut [u8], length: &mut usize) -> u32
     let told = copy_items(text, room);
     *length = length_copied(told);
     copy_code(told)
+}
+
+/// Copies what a number says into the buffer, and writes its length, unless it says nothing.
+pub(crate) fn write_told(text: &[u8], room: &mut [u8], length: &mut usize) -> u32
+    ensures { IsTold text.now result room.old room.new length.old length.new }
+{
+    if text.is_empty() {
+        return Code::Unknown as u32;
+    }
+    write(text, room, length)
 }

@@ -1,12 +1,40 @@
 //! The result codes in words: what each says, and what to do.
-ghost use Rattle.std.specs.Prelude.{◌≡◌, ◌≢◌, []};
-ghost use Rattle.numaplan_c.specs.Texts.{IsWritten};
+ghost use Rattle.std.specs.Prelude.{◌≡◌};
+ghost use Rattle.numaplan_c.specs.Texts.{IsTold};
 ghost use Rattle.numaplan_c.specs.Words.{answer_words, call_words, fault_words, late_words};
 ghost use Rattle.numaplan_c.specs.Names.{name_in};
 
-use crate::codes::Code;
 use crate::names::name_in;
-use crate::texts::write;
+use crate::texts::write_told;
+
+/// Writes what a result code says in words.
+#[unsafe(no_mangle)]
+pub extern "C" fn np_answer_words(code: u32, room: &mut [u8], length: &mut usize) -> u32
+    ensures { IsTold (answer_words code) result room.old room.new length.old length.new }
+{
+    write_told(answer_words(code), room, length)
+}
+
+/// What a code says in words, empty if there is none.
+#[tactic(auto, unfolding(crate::specs::Words::answer_words))]
+fn answer_words(code: u32) -> &'static [u8]
+    ensures { result.now ≡ answer_words code }
+{
+    if code < 50 {
+        return call_words(code);
+    }
+    if code < 90 {
+        return fault_words(code);
+    }
+    late_words(code)
+}
+
+/// What a code below 50 says, empty if it has none.
+fn call_words(code: u32) -> &'static [u8]
+    ensures { result.now ≡ name_in call_words code }
+{
+    name_in(&CALL_WORDS, code)
+}
 
 /// The words of the codes below 50.
 static CALL_WORDS: [(u32, &[u8]); 35] = [
@@ -132,6 +160,14 @@ static CALL_WORDS: [(u32, &[u8]); 35] = [
         b"each frame of each listed node is taken; give one back first",
     ),
 ];
+
+/// What a code of an error in a machine, a list, a policy word or a question about a script says,
+/// empty if it has none.
+fn fault_words(code: u32) -> &'static [u8]
+    ensures { result.now ≡ name_in fault_words code }
+{
+    name_in(&FAULT_WORDS, code)
+}
 
 /// The words of the codes of errors in machines, lists, policy words and questions about scripts.
 static FAULT_WORDS: [(u32, &[u8]); 23] = [
@@ -307,53 +343,9 @@ static LATE_WORDS: [(u32, &[u8]); 24] = [
     ),
 ];
 
-/// What a code below 50 says, empty if it has none.
-fn call_words(code: u32) -> &'static [u8]
-    ensures { result.now ≡ name_in call_words code }
-{
-    name_in(&CALL_WORDS, code)
-}
-
-/// What a code of an error in a machine, a list, a policy word or a question about a script says,
-/// empty if it has none.
-fn fault_words(code: u32) -> &'static [u8]
-    ensures { result.now ≡ name_in fault_words code }
-{
-    name_in(&FAULT_WORDS, code)
-}
-
 /// What a code of a cause that only a host or pages have says, empty if it has none.
 fn late_words(code: u32) -> &'static [u8]
     ensures { result.now ≡ name_in late_words code }
 {
     name_in(&LATE_WORDS, code)
-}
-
-/// What a code says in words, empty if there is none.
-#[tactic(auto, unfolding(crate::specs::Words::answer_words))]
-fn answer_words(code: u32) -> &'static [u8]
-    ensures { result.now ≡ answer_words code }
-{
-    if code < 50 {
-        return call_words(code);
-    }
-    if code < 90 {
-        return fault_words(code);
-    }
-    late_words(code)
-}
-
-/// Writes what a result code says in words.
-#[unsafe(no_mangle)]
-pub extern "C" fn np_answer_words(code: u32, room: &mut [u8], length: &mut usize) -> u32
-    ensures known { answer_words code ≢ [] →
-        IsWritten (answer_words code) result room.old room.new length.new }
-    ensures unknown { answer_words code ≡ [] → (result ≡ 5) × (room.new ≡ room.old)
-        × (length.new ≡ length.old) }
-{
-    let words = answer_words(code);
-    if words.is_empty() {
-        return Code::Unknown as u32;
-    }
-    write(words, room, length)
 }
