@@ -17,6 +17,7 @@ from space import HUGE
 from words import is_silent, lines_of
 from workers import list_of_page
 
+TOLD = "Each page of 2 MiB counts as 512 of 4 KiB"
 FILES = glob.glob(worked.TOP + "/tests/worked/huge/*.answers")
 FILES += glob.glob(worked.TOP + "/tests/worked/hosts/pools-of-hosts.answers")
 FILES += glob.glob(worked.TOP + "/examples/pools-of-two-mib.answers")
@@ -93,6 +94,9 @@ def wrong_of(run, folder, name, script):
     without = run(*words, path)
     if "pools" in without[1] or "counts as 512 pages" not in without[2]:
         return True, f"without --free and --at: {without}"
+    for form in ("svg", "html"):
+        if TOLD not in run(*words, "--format", form, path)[1]:
+            return True, f"{form} doesn't tell how pages of 2 MiB count"
     return True, None
 
 
