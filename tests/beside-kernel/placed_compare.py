@@ -251,7 +251,7 @@ def main():
         machine, _, seen = read_seen(path)
         scripts += len(seen)
         for script in seen:
-            with pool_lines.kernels_way(counts):
+            with pool_lines.kernels_way(machine, counts):
                 compare(machine, script, counts)
             if program:
                 compare_program(program, known, machine, script, counts)

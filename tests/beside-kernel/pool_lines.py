@@ -10,12 +10,13 @@ sys.path.append(os.path.dirname(os.path.abspath(__file__)) + "/../model")
 
 import huge
 from compare import HUGE
+from machines import machine_named
 from space import piece_at
 
 ROWS = {
     "many": "pages of 2 MiB moved by mbind of many, to a node that it names and that has no free page",
     "own": "pages of 2 MiB moved by mbind to a free one of their own node, where surplus pages end",
-    "without": "pool COUNT TASK CPU of a local task, on a CPU whose node has no memory",
+    "without": "pool NODE COUNT of a node without memory",
     "others": "pool NODE COUNT, to which the surplus pages of other nodes were added (6.1)",
     "inside": "move of a page of 2 MiB by an address behind its first 4 KiB (6.1)",
 }
@@ -23,9 +24,9 @@ ROWS = {
 
 
 @contextlib.contextmanager
-def kernels_way(counts):
+def kernels_way(machine, counts):
     """Has the model do what kernels do where docs/KERNEL.md says that they do otherwise, and counts that."""
-    plain_aim, plain_resize = huge.aim_of, huge.resize
+    plain_aim, plain_resize_node = huge.aim_of, huge.resize_node
 
     def aim_of(state, page, nodes):
         pools, record = state.huge.pools, piece_at(state.space, page * HUGE // 4096).record
@@ -38,18 +39,17 @@ def kernels_way(counts):
             huge.free_page(pools, aim)
         return aim
 
-    def resize(pools, nodes, allowed, goal):
-        if nodes & set(pools.memory):
-            return plain_resize(pools, nodes, allowed, goal)
+    def resize_node(pools, node, count, allowed):
+        if node in pools.memory or node >= machine_named(machine).nodes:
+            return plain_resize_node(pools, node, count, allowed)
         counts["without"] += 1
-        pools.grow = min(nodes) if goal > pools.lasting() else pools.grow
-        pools.shrink = min(nodes) if goal < pools.lasting() else pools.shrink
+        return huge.resize(pools, {node}, allowed, count + pools.lasting())
 
-    huge.aim_of, huge.resize = aim_of, resize
+    huge.aim_of, huge.resize_node = aim_of, resize_node
     try:
         yield
     finally:
-        huge.aim_of, huge.resize = plain_aim, plain_resize
+        huge.aim_of, huge.resize_node = plain_aim, plain_resize_node
 
 
 # what pools.h tells

@@ -64,8 +64,7 @@ def take_turns(times, nodes, mark, has_room, take):
 
 def resize(pools, nodes, allowed, goal):
     """set_max_huge_pages: surplus pages become lasting, then fresh ones come; or free ones go, and what
-    is still too many becomes surplus."""
-    nodes = nodes & set(pools.memory)
+    is still too many becomes surplus. A node without memory is tried too, in vain."""
 
     def adopt(node):
         pools.surplus[node] -= 1
