@@ -11,7 +11,6 @@ sys.path.append(os.path.dirname(os.path.abspath(__file__)) + "/../model")
 import huge
 from compare import HUGE
 from machines import machine_named
-from space import piece_at
 
 ROWS = {
     "many": "pages of 2 MiB moved by mbind of many, to a node that it names and that has no free page",
@@ -28,11 +27,11 @@ def kernels_way(machine, counts):
     """Has the model do what kernels do where docs/KERNEL.md says that they do otherwise, and counts that."""
     plain_aim, plain_resize_node = huge.aim_of, huge.resize_node
 
-    def aim_of(state, page, nodes):
-        pools, record = state.huge.pools, piece_at(state.space, page * HUGE // 4096).record
+    def aim_of(state, page, record, nodes):
+        pools = state.huge.pools
         named = [node for node in nodes if record and record.mode == "many" and node in record.nodes]
-        aim = plain_aim(state, page, named or nodes)
-        counts["many"] += aim != plain_aim(state, page, nodes)
+        aim = plain_aim(state, page, record, named or nodes)
+        counts["many"] += aim != plain_aim(state, page, record, nodes)
         if aim == state.huge.spots[page] and pools.spare() > 0 and pools.free[aim] and pools.surplus[aim]:
             counts["own"] += 1
             pools.free[aim] -= 1

@@ -8,7 +8,7 @@ from collections import Counter
 
 import placed
 from commands import accept, span_of
-from space import HUGE, page_of, piece_at
+from space import HUGE, page_of, piece_at, resolved
 from workers import list_of_page, place_cause
 
 MOST = 2**40
@@ -454,7 +454,7 @@ def bind_strictly(state, start, length, asked):
     return placed.bind_strictly(state, start, length, asked)
 
 
-def aim_of(state, _, nodes):
+def aim_of(state, _page, _record, nodes):
     """Where a page goes of its list: to the first node with a free page, if one is spare; else to the first."""
     pools = state.huge.pools
     spare = [node for node in nodes if pools.free[node]] if pools.spare() > 0 else []
@@ -473,7 +473,8 @@ def bind_and_move(state, start, length, asked, task, cpu, is_strict=False):
         if not nodes:
             left += 1
             continue
-        aim = aim_of(state, page, nodes)
+        record = resolved(state.space, task, piece_at(state.space, page * HUGE))
+        aim = aim_of(state, page, record, nodes)
         if aim != lies:
             send(state, page, aim)
             flows[lies, aim] += 1
