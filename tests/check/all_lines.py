@@ -22,6 +22,7 @@ UNJUDGED = re.compile(rb"^not judged, since no machine was ready: (\d+)\n", re.M
 # (By the other rules other lines may be refused.)
 BY_OTHER = re.compile(rb"^rules: .*\n", re.M)
 RESIDENT = re.compile(rb"^(?:page 0x[0-9a-f]+ is resident on|node \d+:) .*\n", re.M)
+POOLS = re.compile(rb"^pools: .*\n", re.M)
 TELLS_OTHER = re.compile(rb"^(?:rules: those of the documents|task \d+ has no policy).*\n", re.M)
 MOST = 2**24  # bytes of a mapping
 UNKNOWN = "no line begins with this word"
@@ -180,8 +181,8 @@ def questions(rows):
 
 
 def without_notes(output):
-    """An answer without what it tells of other rules and of where its page lies."""
-    return RESIDENT.sub(b"", BY_OTHER.sub(b"", output))
+    """An answer without what it tells of other rules, of where its page lies, and of pools."""
+    return POOLS.sub(b"", RESIDENT.sub(b"", BY_OTHER.sub(b"", output)))
 
 
 def answer_difference(program, name, plain, rows, faults, unjudged):
