@@ -23,6 +23,7 @@ from placed_compare import ROWS, cause, is_hole, pages_of, short_of_move, tell_p
 from space import piece_at
 
 HOME = "scripts not compared behind a home over a page of another mode"
+SHARING = "scripts not compared behind a fork whose child goes on to share pages of 2 MiB that 6.1 had more"
 
 
 class Follower:
@@ -32,6 +33,7 @@ class Follower:
         self.state = model.State()
         self.shared = {}  # by process: pages that a fork left to it, as long as it only writes or unmaps
         self.shared_huge = {}  # the same of pages of 2 MiB
+        self.goes_on_sharing = False  # whether some of these are still both's
         for line in ["rules linux"] + opening(machine):
             self.play(line)
 
@@ -46,6 +48,8 @@ class Follower:
             self.shared_huge = {child: self.huge_nodes(parent)}
             self.shared = {child: dict(self.nodes(parent))}
         elif not own or not line.startswith(own):
+            self.goes_on_sharing = any(page not in pool_lines.nodes_of(self.state.host.huge.get(child))
+                                       for child in self.shared_huge for page in self.huge_nodes(child))
             self.shared, self.shared_huge = {}, {}
         return said
 
@@ -65,7 +69,7 @@ class Follower:
     def huge_nodes(self, process):
         """The node of each page of 2 MiB of a process; a child has those that it shares and hasn't unmapped."""
         its = self.state.host.huge.get(process)
-        shared = self.shared_huge.get(process, {})
+        shared = self.shared_huge.get(process, {}) if its else {}
         return {**{page: node for page, node in shared.items() if page in its.spots}, **pool_lines.nodes_of(its)}
 
     def write(self, process, line, is_front):
@@ -127,6 +131,9 @@ def compare(machine, script, counts):
             counts["lines"] += 1
             counts["changes"] += line.startswith(("cgroup-mems", "attach")) and seen == "ok"
             behind, mine = line, follower.play(line)
+            if follower.goes_on_sharing:
+                counts["sharing"] += 1
+                return
             if is_hole(bare, mine) and seen == "ENOMEM":
                 counts["hole"] += 1
                 hole = bare
@@ -175,7 +182,7 @@ def main():
                 compare(machine, script, counts)
             if program:
                 compare_program(program, machine, script, counts)
-    for row, what in {**ROWS, "home": HOME}.items():
+    for row, what in {**ROWS, "home": HOME, "sharing": SHARING}.items():
         if counts[row]:
             print(f"{counts[row]} {what}")
     if program:
