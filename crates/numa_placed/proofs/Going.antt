@@ -54,6 +54,21 @@ module _ (go gone : ℕ → ℕ) (spots : ℕ → Spot) (nodes : AreOnNodes spot
   pub all-go : (page : ℕ) → shifted_spots go gone spots page ≡ moved_spot go (spots page)
   all-go page = goes-as page (spots page) refl
 
+-- ---- where none goes
+
+-- where no page of a node goes, each stays
+pub none-gone : (go gone : ℕ → ℕ) (spots : ℕ → Spot) → AreOnNodes spots
+    → ((node : ℕ) → node < 256 → gone node ≡ 0) → (page : ℕ)
+    → spots page ≡ shifted_spots go gone spots page
+none-gone go gone spots on none page = by (spots page) refl
+  where
+    by : (spot : Spot) → spots page ≡ spot
+        → spot ≡ shifted_spot go gone (stated_below spots page) spot
+    by Nowhere is = refl
+    by (Stated node) is =
+        rw (le-ltb (stated_below spots page node) (gone node)
+        (omega (arith, none node (on page node is)))) refl
+
 -- ---- where the pages of some nodes find room
 
 either-way : (first : Bool) (one other node : ℕ) → one ≡ node → other ≡ node

@@ -1,10 +1,12 @@
 -- Where the pages of a node go, in words.
 use Rattle.std.proofs.Common.{◌≡◌, ◌≢◌, ℕ, ◌<◌, ◌%◌, ◌^◌, ◌&&◌, true, false, not, eqb, refl}
-use Rattle.std.proofs.Common.{inl, inr, slice_index}
+use Rattle.std.proofs.Common.{inl, inr, slice_index, zero, suc, List, ◌∷◌, length, get_or, Contains}
+use Rattle.std.proofs.Common.{sym, subst, arith}
 use Rattle.std.proofs.Math.Nat.{mod-eq_of_lt, mod-lt}
 use Rattle.std.proofs.lemmas.Bool.{cases_Bool, cases_eq, and_parts, ne_eqb, eq-eqb}
 use Rattle.numa_mask.specs.NodeSet.{has, members, weight_of, node_after, ordinal_of}
 use Rattle.numa_mask.proofs.Images.{weight-some}
+use Rattle.numa_mask.proofs.Sets.{contains-has}
 use Rattle.numa_mask.proofs.Ordinals.{nth-has, nth-some, nth-within, ordinal-nth}
 use Rattle.numa_space.proofs.Chosen.{index-got}
 use Rattle.numa_placed.specs.Moves.{moved_node}
@@ -23,6 +25,26 @@ outside old new node out =
       | inl t ↦ rw t refl
       | inr e ↦ rw e (after-outside old new node out)
     ]
+
+-- a node that isn't among the members is none of them
+pub absent : (set node : ℕ) → node < 256 → (Contains (members set) node → ⊥)
+    → has set node ≡ false
+absent set node small out = elim (cases_Bool (has set node)) [
+  | inl here ↦ absurd (out (contains-has set node small here))
+  | inr lacks ↦ lacks
+]
+
+not-at : (first node : ℕ) (rest : List ℕ) → (Contains rest node → ⊥) → (node ≡ first → ⊥)
+    → (k : ℕ) → k < length (first ∷ rest) → get_or (first ∷ rest) k node ≡ node → ⊥
+not-at first node rest out other zero within is = other (sym is)
+not-at first node rest out other (suc k) within is = out (k, omega (arith, within), is)
+
+-- a node that is neither the first of a list nor behind it
+pub not-in : (first node : ℕ) (rest whole : List ℕ) → whole ≡ first ∷ rest
+    → (Contains rest node → ⊥) → (node ≡ first → ⊥) → Contains whole node → ⊥
+not-in first node rest whole is out other there =
+    let here : Contains (first ∷ rest) node = subst (λ (l : List ℕ). Contains l node) is there in
+    not-at first node rest out other here.0 here.1 here.2
 
 after-into : (old new node : ℕ) → has old node ≡ true → new ≢ 0 → new < 2 ^ 256
     → has new (node_after old new node) ≡ true

@@ -1,10 +1,10 @@
 -- What a move does to all pages, counted by the nodes on which they lie.
 use Rattle.std.proofs.Common.{◌≡◌, ℕ, zero, suc, ◌<◌, ◌≤◌, ◌^◌, ◌==◌, ◌&&◌, not, Bool, true, false}
-use Rattle.std.proofs.Common.{◌⊎◌, refl, ap, ◌∙◌, arith, inl, inr}
+use Rattle.std.proofs.Common.{◌⊎◌, refl, ap, sym, ◌∙◌, arith, inl, inr}
 use Rattle.std.specs.Prelude.{nat_lt}
 use Rattle.std.proofs.lemmas.Bool.{cases_Bool, cases_eq, cases_lt, eq-eqb, le-ltb, lt-ltb, ne_eqb}
 use Rattle.numa_ranges.proofs.Counted.{count-agree, count-none}
-use Rattle.numa_placed.specs.Moves.{goes, goes_from}
+use Rattle.numa_placed.specs.Moves.{goes, goes_from, moved_spot}
 use Rattle.numa_placed.specs.Shifts.{is_stated, stated_on, sum_below}
 use Rattle.numa_placed.specs.Spots.{pages_where}
 use Rattle.numa_placed.specs.Standing.{AreOnNodes}
@@ -12,15 +12,39 @@ use Rattle.numa_placed.specs.Tallies.{leave_on}
 use Rattle.numa_placed.specs.declared.spot.Spot.{Spot}
 use Rattle.numa_placed.specs.declared.spot.Spot.TheVariants.{Nowhere, Stated}
 use Rattle.numa_placed.proofs.Owned.{count-apart-from}
+use Rattle.numa_placed.proofs.Shared.{zero-none}
 
 pub leave-same : (go go' count count' : ℕ → ℕ) (node : ℕ) → go node ≡ go' node
     → count node ≡ count' node → leave_on go count node ≡ leave_on go' count' node
 leave-same go go' count count' node same same' = rw (same, same') refl
 
+-- no page leaves a node that is its own target
+pub leave-none : (go count : ℕ → ℕ) (node : ℕ) → go node ≡ node → leave_on go count node ≡ 0
+leave-none go count node same = rw (eq-eqb (go node) node same) refl
+
 pub leave-few : (go count : ℕ → ℕ) (node : ℕ) → leave_on go count node ≤ count node
 leave-few go count node = elim (cases_Bool (go node == node)) [
   | inl stays ↦ rw stays (omega arith)
   | inr leaves ↦ rw leaves (omega arith)
+]
+
+still-moved : (go : ℕ → ℕ) (spot : Spot) → goes go spot ≡ false → spot ≡ moved_spot go spot
+still-moved go Nowhere stays = refl
+still-moved go (Stated node) stays = elim (cases_eq (go node) node) [
+  | inl same ↦ ap Stated (sym same)
+  | inr other ↦
+      let leaves : not (go node == node) ≡ true = ap not (ne_eqb (go node) node other) in
+      absurd (cc)
+]
+
+-- where no page goes, each is where it went
+pub none-moved : (go : ℕ → ℕ) (spots : ℕ → Spot) → pages_where (goes go) spots ≡ 0
+    → ((page : ℕ) → 2 ^ 35 ≤ page → spots page ≡ Nowhere) → (page : ℕ)
+    → spots page ≡ moved_spot go (spots page)
+none-moved go spots none far page = elim (cases_lt page (2 ^ 35)) [
+  | inl near ↦ still-moved go (spots page)
+      (zero-none (λ p. goes go (spots p)) 0 (2 ^ 35) page none (omega arith) (omega (arith, near)))
+  | inr beyond ↦ far page beyond ∙ ap (moved_spot go) (sym (far page beyond))
 ]
 
 module _ (go : ℕ → ℕ) (spots : ℕ → Spot) where

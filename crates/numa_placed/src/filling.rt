@@ -256,7 +256,7 @@ fn send_apart(
 }
 
 /// Moves the pages of each node to where they go when they leave one set of nodes for another, as
-/// far as there is room. Where all find room no memory is taken.
+/// far as there is room. Where all find room, or none does, no memory is taken.
 pub(crate) fn fill_places(
     places: &mut Places,
     old: &NodeMask,
@@ -278,6 +278,10 @@ pub(crate) fn fill_places(
     let counts = count_each(places);
     let course = course_of(&targets, &counts, old, rooms);
     let told = tell(targets, &counts, &course.gone, old, new);
+    if told.moved == 0 {
+        *rooms = course.rooms;
+        return Ok(told);
+    }
     if stay(&targets, &counts, &course.gone) == 0 {
         send_places(places, &targets);
         *rooms = course.rooms;

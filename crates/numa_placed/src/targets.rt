@@ -40,13 +40,25 @@ fn remapped_node(old: &NodeMask, new: &NodeMask, node: u8) -> u8
     target.number()
 }
 
-/// The node to which the pages of each node go.
+/// Each node itself.
+fn own() -> [u8; 256]
+    ensures { AreTargets result (λ node. node) }
+{
+    let mut nodes = [0; 256];
+    for node in 0..256usize {
+        nodes[node] = node as u8;
+    }
+    nodes
+}
+
+/// The node to which the pages of each node go: of a node outside the old set the node itself.
 pub(crate) fn targets(old: &NodeMask, new: &NodeMask) -> [u8; 256]
     ensures { AreTargets result (moved_node old.now new.now) }
 {
-    let mut targets = [0; 256];
-    for node in 0..256usize {
-        targets[node] = moved_node(old, new, node as u8);
+    let mut targets = own();
+    for node in old.iter() {
+        let number = node.number();
+        targets[number as usize] = moved_node(old, new, number);
     }
     targets
 }

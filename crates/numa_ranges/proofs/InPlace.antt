@@ -124,6 +124,14 @@ module _ {T : Type 0} where
       ∙ ap (λ l. get_or l 0 run) opens in
       subst IsInRange here (all i run within)
 
+  pub in-range-first : (run : Run T) (runs : List (Run T)) → All IsInRange (run ∷ runs)
+      → IsInRange run
+  in-range-first run runs all = all 0 run (omega arith)
+
+  pub in-range-behind : (run : Run T) (runs : List (Run T)) → All IsInRange (run ∷ runs)
+      → All IsInRange runs
+  in-range-behind run runs all k d within = all (suc k) d (omega (arith, within))
+
   pub in-range-grown : (last run : Run T) → IsInRange last → IsInRange run → Continues last run
       → IsInRange (run_and_next last run)
   in-range-grown last run a b goes =

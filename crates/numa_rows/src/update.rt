@@ -7,21 +7,23 @@ use crate::owned::Owned;
 use crate::starts::guess_at;
 use crate::table::place_of;
 
-/// Replaces the row at a rank.
+/// Replaces the row at a rank. The search for its chunk starts at a guess; returns the chunk.
 pub(crate) fn put_row<T: Copy + Drop>(
     chunks: &mut Vec<Chunk<T, Owned<T>>>,
     starts: &[u32],
     len: usize,
     rank: usize,
     row: T,
-)
+    guess: usize,
+) -> usize
     requires table { IsTable 6144 chunks.old.items starts.now len }
     requires rank { rank < len }
     ensures row { flat chunks.new.items ≡ slice_set (flat chunks.old.items) rank row }
     ensures table { IsTable 6144 chunks.new.items starts.now len }
 {
-    let place = place_of(chunks, starts, len, rank, guess_at(starts, rank));
+    let place = place_of(chunks, starts, len, rank, guess);
     chunks[place.chunk].put(rank - place.start, row);
+    place.chunk
 }
 
 /// Keeps the first `left` rows.

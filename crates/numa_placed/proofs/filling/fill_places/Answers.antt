@@ -7,7 +7,7 @@ use Rattle.numa_placed.specs.Shifts.{stated_on, stay_on}
 use Rattle.numa_placed.specs.Standing.{target_from}
 use Rattle.numa_placed.specs.Turns.{spots_of}
 use Rattle.numa_placed.specs.declared.spot.Spot.{Spot}
-use Rattle.numa_placed.proofs.Going.{all-go, listed-cut, sent-apart, target-same}
+use Rattle.numa_placed.proofs.Going.{all-go, listed-cut, none-gone, sent-apart, target-same}
 use Rattle.numa_placed.proofs.Owned.{kept-near}
 use Rattle.numa_placed.proofs.Sources.{same-split, stay-same, steps-few, steps-one, sum-zero}
 use Rattle.numa_placed.proofs.filling.fill_places.Goals as goal
@@ -26,6 +26,24 @@ tell-told-requires-clause-fewer c node small =
       c.count_each-counts.ensures.pages node small,
       c.count_each-counts.ensures.few node small,
     )
+
+pub returns-then-told-eq0-clause-stored : goal.returns-then-told-eq0-clause-stored
+returns-then-told-eq0-clause-stored c = c.requires.stored
+
+pub returns-then-told-eq0-clause-moved : goal.returns-then-told-eq0-clause-moved
+returns-then-told-eq0-clause-moved c room rooms =
+    let spots = spots_of c.args.places.now in
+    let go = moved_node c.args.old.now c.args.new.now in
+    let goes = c.course_of-course.ensures go (stated_on spots) room c.targets-targets.ensures
+    c.count_each-counts.ensures.pages rooms in
+    let gone = (shift_of spots c.args.old.now c.args.new.now room).gone in
+    let tally = c.tell-told.ensures spots gone c.count_each-counts.ensures.pages goes.gone in
+    record {
+      pages = none-gone go gone spots c.count_each-counts.ensures.nodes
+          (sum-zero 256 gone (sym tally.moved ∙ c.if-told-eq0.true));
+      room = goes.room;
+      tally = tally;
+    }
 
 pub returns-then-stay-eq0-clause-stored : goal.returns-then-stay-eq0-clause-stored
 returns-then-stay-eq0-clause-stored c = record {

@@ -8,7 +8,7 @@ use Rattle.numa_ranges.specs.Runs.{Continues}
 use Rattle.numa_ranges.specs.Edits.{maximal_runs, joined_from}
 use Rattle.numa_ranges.specs.Numbered.{runs_of}
 use Rattle.numa_ranges.proofs.InPlace.{first-open, closed-last, next-run, step-joins, step-closes}
-use Rattle.numa_ranges.proofs.InPlace.{in-range-next, in-range-grown}
+use Rattle.numa_ranges.proofs.InPlace.{in-range-next, in-range-grown, maximal-still}
 use Rattle.numa_ranges.proofs.Numbered.{length-runs, no-runs}
 use Rattle.numa_ranges.proofs.join.join_in_place.Goals as goal
 
@@ -22,6 +22,18 @@ returns-then-is_empty-clause-joined g c =
     no-runs c.args.values.now c.args.rows.now
     (eqb-true (length c.args.rows.now) 0 (sym c.if-is_empty.ensures)) in
     none ∙ ap (maximal_runs g.T.PartialEq.eq) (sym none)
+
+pub has_joint-requires : goal.has_joint-requires
+has_joint-requires g c =
+    record { numbered = c.requires.numbered; in_range = c.requires.in_range }
+
+pub returns-then-not-has_joint-clause-numbered : goal.returns-then-not-has_joint-clause-numbered
+returns-then-not-has_joint-clause-numbered g c = c.requires.numbered
+
+pub returns-then-not-has_joint-clause-joined : goal.returns-then-not-has_joint-clause-joined
+returns-then-not-has_joint-clause-joined g c =
+    sym (maximal-still g.T.PartialEq.eq g.met.T.Exact.exact g.met.T.Eq.laws.refl
+    (runs_of c.args.values.now c.args.rows.now) (c.has_joint.ensures c.if-not-has_joint.true))
 
 pub loop-i-init : goal.loop-i-init
 loop-i-init g c =

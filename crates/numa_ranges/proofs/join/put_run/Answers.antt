@@ -15,7 +15,7 @@ returns-clause-numbered g c =
           c.args.run.index;
       number = c.args.number;
     } in
-    rw c.put.ensures
+    rw c.put_near.ensures
     (numbered-set c.args._values.now c.args.rows.now c.args.rank row c.requires.numbered
     (slice_get_within c.args._values.now c.args.number c.args.run.value c.requires.number))
 
@@ -28,5 +28,5 @@ returns-clause-runs g c =
           c.args.run.index;
       number = c.args.number;
     } in
-    ap (runs_of c.args._values.now) c.put.ensures ∙ runs-set c.args._values.now c.args.rows.now
+    ap (runs_of c.args._values.now) c.put_near.ensures ∙ runs-set c.args._values.now c.args.rows.now
     c.args.rank row c.args.run c.requires.numbered (ap (run_of_row row) c.requires.number)
