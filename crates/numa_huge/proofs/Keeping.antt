@@ -13,7 +13,7 @@ use Rattle.numa_ranges.specs.declared.run.Run.{Run}
 use Rattle.numa_ranges.proofs.Counted.{count-none}
 use Rattle.numa_pools.specs.Kept.{AreKept as ArePools}
 use Rattle.numa_pools.specs.Pools.{PoolCounts, free_at, freeing, giving_back, moving_one, no_pages}
-use Rattle.numa_pools.specs.Pools.{refusing, reserving, taking}
+use Rattle.numa_pools.specs.Pools.{refusing, renewing, reserving, taking}
 use Rattle.numa_pools.specs.Resize.{goal_for, resized, resized_node}
 use Rattle.numa_huge.specs.Huge.{HugeLying, fits, freeing_below, fresh_spot, has_huge, has_reserved}
 use Rattle.numa_huge.specs.Huge.{huge_at, most_pages, node_of, on_node, pages_in, with_span}
@@ -25,7 +25,7 @@ use Rattle.numa_huge.proofs.Own.{own-mapped, own-node, own-page, own-without, sp
 use Rattle.numa_huge.proofs.Own.{spots-without}
 use Rattle.numa_huge.proofs.Pooled.{pooled-mapping, pooled-refusing}
 use Rattle.numa_huge.proofs.Pooled.{pooled-resized, pooled-touch, pooled-unmapping}
-use Rattle.numa_huge.proofs.Passing.{pooled-passing}
+use Rattle.numa_huge.proofs.Passing.{pooled-passing, pooled-renewing}
 
 -- ---- the same pages
 
@@ -234,6 +234,16 @@ kept-refused others pools after runs pages are so kept is = record {
   own = kept.own;
   pooled = subst (λ (p : PoolCounts). ArePooled others p (huge_at runs)) (sym is)
       (pooled-refusing others pools (huge_at runs) pages are (subst ArePools is so) kept.pooled);
+}
+
+pub kept-renewed : (others : Others) (pools after : PoolCounts) (runs : List (Run HugeSpot))
+    (node : ℕ) → node < 256 → ArePools pools → ArePools after → AreKept others pools runs
+    → after ≡ renewing pools node → AreKept others after runs
+kept-renewed others pools after runs node small are so kept is = record {
+  own = kept.own;
+  pooled = subst (λ (p : PoolCounts). ArePooled others p (huge_at runs)) (sym is)
+      (pooled-renewing others pools (huge_at runs) node small are (subst ArePools is so)
+      kept.pooled);
 }
 
 -- ---- what others have is kept

@@ -6,6 +6,7 @@ pub mod Found
 pub mod Keeping
 pub mod Leaving
 pub mod Left
+pub mod Named
 pub mod Own
 pub mod Passing
 pub mod Pooled

@@ -6,8 +6,9 @@ use Rattle.std.proofs.lemmas.Bool.{cases_eq, eq-eqb, ne_eqb}
 use Rattle.numa_placed.proofs.Shared.{count-le}
 use Rattle.numa_pools.specs.Kept.{AreKept}
 use Rattle.numa_pools.specs.Moves.{movable}
-use Rattle.numa_pools.specs.Pools.{PoolCounts, free_at, moving_one, total_at, used_at}
-use Rattle.numa_pools.proofs.Using.{AreElsewhere, movable-all, moving-used}
+use Rattle.numa_pools.specs.Pools.{PoolCounts, free_at, moving_one, renewing, total_at, used_at}
+use Rattle.numa_pools.proofs.Using.{AreElsewhere, movable-all, moving-used, renewing-reserved}
+use Rattle.numa_pools.proofs.Using.{renewing-used}
 use Rattle.numa_huge.specs.Huge.{has_reserved, most_pages, on_node, pages_of, with_span}
 use Rattle.numa_huge.specs.Kept.{ArePooled, Others}
 use Rattle.numa_huge.specs.Shared.{pages_if}
@@ -126,3 +127,14 @@ module _ (spots : ℕ → Option HugeSpot) (page from : ℕ) (within : page < mo
         count-page has_reserved page (Some (On to)) spots within,
         ap (λ (spot : Option HugeSpot). pages_if (has_reserved spot) 1) is,
       )
+
+-- ---- a page that stays, whose place a free one takes
+
+pub pooled-renewing : (others : Others) (pools : PoolCounts) (spots : ℕ → Option HugeSpot)
+    (node : ℕ) → node < 256 → AreKept pools → AreKept (renewing pools node)
+    → ArePooled others pools spots → ArePooled others (renewing pools node) spots
+pooled-renewing others pools spots node l kept after pooled =
+    pooled-by others (renewing pools node) spots after
+    (λ other small. renewing-used pools node kept l other
+    ∙ used-of others pools spots other pooled small)
+    (renewing-reserved pools node ∙ pooled.reserved)

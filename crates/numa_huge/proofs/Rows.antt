@@ -5,10 +5,13 @@ use Rattle.std.proofs.Common.{Option, refl}
 use Rattle.numa_ranges.specs.Counts.{count_pages}
 use Rattle.numa_ranges.specs.Maps.{any_page}
 use Rattle.numa_pools.specs.Turns.{in_turn, on, ring, turn}
-use Rattle.numa_pools.specs.Pools.{PoolCounts, freeing_one, moving_one}
+use Rattle.numa_mode.specs.Policy.{PolicyRecord}
+use Rattle.numa_mode.specs.declared.modes.NodeFlag.TheVariants.{Plain}
+use Rattle.numa_mode.specs.declared.modes.Mode.TheVariants.{PreferredMany}
+use Rattle.numa_pools.specs.Pools.{PoolCounts, freeing_one, moving_one, renewing}
 use Rattle.numa_huge.specs.Huge.{HugeLying, faulting, fits, freeing_below, giver_for, has_huge}
 use Rattle.numa_huge.specs.Huge.{mapping, node_of, unmapping, with_page}
-use Rattle.numa_huge.specs.Moves.{HugeWalk, goal, moved_to, sent_pages, walk_from}
+use Rattle.numa_huge.specs.Moves.{HugeWalk, goal, moved_to, named_by, sent_pages, walk_from}
 use Rattle.numa_huge.specs.declared.spot.HugeSpot.{HugeSpot}
 use Rattle.numa_huge.specs.declared.spot.HugeSpot.TheVariants.{On}
 
@@ -155,6 +158,69 @@ free-page-serves = refl
 
 no-free-page : goal on_0.pools (2 ∷ 3 ∷ []) ≡ Some 2
 no-free-page = refl
+
+-- `many`: a free page of a node that it doesn't name serves nobody who moves. Here node 0 has a free
+-- page, and node 1, which the policy names, none: the page goes to node 1, and its place with it
+-- (`mbind .. many:1 move`)
+abbrev preferring : ℕ → PolicyRecord
+preferring nodes = record {
+  spec = record { mode = PreferredMany; flag = Plain; mask = nodes };
+  effective = nodes;
+  home = None;
+}
+
+named-alone : named_by (Some (preferring 2)) (1 ∷ 0 ∷ []) ≡ 1 ∷ []
+named-alone = refl
+
+abbrev one_free : HugeLying
+one_free = record {
+  pools = pools_with (four 2 1 0 0) (four 1 0 0 0) (four 0 0 0 0) 0 1 0;
+  spots = two_on 0;
+}
+
+to-named : goal one_free.pools (named_by (Some (preferring 2)) (1 ∷ 0 ∷ [])) ≡ Some 1
+to-named = refl
+
+-- where none of its nodes is allowed any more, the page stays
+named-none : named_by (Some (preferring 4)) (1 ∷ 0 ∷ []) ≡ []
+named-none = refl
+
+-- by another policy, or none, all nodes of the list are asked
+named-all : named_by None (1 ∷ 0 ∷ []) ≡ 1 ∷ 0 ∷ []
+named-all = refl
+
+-- ---- `mbind .. local move` of a page on node 0: there a free page takes its place, and the old one
+-- ends, since the node has surplus (`pool 0 2`, two pages used, `pool 0 1`, one of them unmapped)
+
+abbrev one_on : ℕ → Option HugeSpot
+one_on zero = Some (On 0)
+one_on (suc page) = None
+
+abbrev with_surplus : HugeLying
+with_surplus = record {
+  pools = pools_with (four 2 1 0 0) (four 1 0 0 0) (four 1 0 0 0) 0 1 0;
+  spots = one_on;
+}
+
+abbrev renewed : HugeWalk
+renewed = sent_pages 0 (λ page. 0 ∷ 1 ∷ []) 0 1 (walk_from with_surplus)
+
+renewed-pools : renewed.huge.pools ≡ pools_with (four 1 1 0 0) (four 0 0 0 0) (four 0 0 0 0) 0 1 0
+unfolding sent_pages renewing freeing_one
+renewed-pools = refl
+
+renewed-lies : node_of (renewed.huge.spots 0) ≡ Some 0
+unfolding sent_pages renewing
+renewed-lies = refl
+
+-- it isn't told as moved
+renewed-moved : renewed.told.moved ≡ 0
+unfolding sent_pages renewing
+renewed-moved = refl
+
+-- move_pages(2) leaves it alone
+unmoved-pools : (moved_to (with_surplus.spots 0) 0 0 with_surplus).pools ≡ with_surplus.pools
+unmoved-pools = refl
 
 -- ---- `move 0x0 2`
 

@@ -8,10 +8,10 @@ use Rattle.numa_ranges.specs.Runs.{AreApart, end_of}
 use Rattle.numa_ranges.specs.declared.run.Run.{Run}
 use Rattle.numa_ranges.proofs.Apart.{in_pages-above, in_pages-true, page_at-before}
 use Rattle.numa_placed.proofs.Stating.{AreLeft}
-use Rattle.numa_pools.specs.Pools.{moving_one}
+use Rattle.numa_pools.specs.Pools.{moving_one, renewing}
 use Rattle.numa_huge.specs.Huge.{HugeLying, HugePlaced, huge_at, places_of, spot_in, with_span}
-use Rattle.numa_huge.specs.Moves.{HugeTold, HugeWalk, goal, is_astray, passing, sending, sent_page}
-use Rattle.numa_huge.specs.Moves.{sent_pages, sent_where}
+use Rattle.numa_huge.specs.Moves.{HugeTold, HugeWalk, goal, is_astray, passing, replacing, sending}
+use Rattle.numa_huge.specs.Moves.{sent_page, sent_pages, sent_where}
 use Rattle.numa_huge.specs.Tallies.{IsWalk}
 use Rattle.numa_huge.specs.declared.last.Flows.{Flows}
 use Rattle.numa_huge.specs.declared.spot.HugeSpot.{HugeSpot}
@@ -72,10 +72,19 @@ passing-ahead first from to p huge l = by (from == to)
     by false = ap (λ (b : Bool). if b then Some (On to) else huge.spots p)
         (in_pages-above first 1 p (omega (arith, l)))
 
+replacing-ahead : (first from to p : ℕ) (huge : HugeLying) → first < p
+    → (replacing first from to huge).spots p ≡ huge.spots p
+replacing-ahead first from to p huge l = by (from == to)
+  where
+    by : (b : Bool) → (if b then (record huge { pools = renewing huge.pools from })
+        else passing first from to huge).spots p ≡ huge.spots p
+    by true = refl
+    by false = passing-ahead first from to p huge l
+
 sending-ahead : (to : Option ℕ) (first from p : ℕ) (walk : HugeWalk) → first < p
     → (sending first from to walk).huge.spots p ≡ walk.huge.spots p
 sending-ahead None first from p walk l = refl
-sending-ahead (Some to) first from p walk l = passing-ahead first from to p walk.huge l
+sending-ahead (Some to) first from p walk l = replacing-ahead first from to p walk.huge l
 
 where-ahead : (b : Bool) (spot : Option HugeSpot) (first p : ℕ) (nodes : List ℕ) (walk : HugeWalk)
     → first < p → (sent_where b spot first nodes walk).huge.spots p ≡ walk.huge.spots p

@@ -3,11 +3,17 @@
 use Rattle.std.specs.Prelude.{ℕ, zero, suc, ◌+◌, ◌==◌, ◌&&◌, Bool, true, false, not, Option, Some}
 use Rattle.std.specs.Prelude.{None, List, [], ◌∷◌, if◌then◌else◌}
 use Rattle.numa_mask.specs.NodeSet.{has}
+use Rattle.numa_mode.specs.Policy.{PolicyRecord}
+use Rattle.numa_mode.specs.declared.modes.Mode.{Mode}
+use Rattle.numa_mode.specs.declared.modes.Mode.TheVariants.{PreferredMany}
+use Rattle.numa_space.specs.Lists.{within}
+use Rattle.numa_space.specs.Standing.{SpaceState, policy_in}
+use Rattle.numa_placed.specs.Binds.{nodes_in}
 use Rattle.numa_placed.specs.Moves.{moved_node}
 use Rattle.numa_placed.specs.Shifts.{source_from, sum_below}
 use Rattle.numa_placed.specs.Tallies.{leave_on}
 use Rattle.numa_pools.specs.Moves.{moving}
-use Rattle.numa_pools.specs.Pools.{PoolCounts, giver, moving_one}
+use Rattle.numa_pools.specs.Pools.{PoolCounts, giver, moving_one, renewing}
 use Rattle.numa_huge.specs.Huge.{HugeLying, faulting, giver_for, no_huge, on_node, pages_of}
 use Rattle.numa_huge.specs.Huge.{with_span}
 use Rattle.numa_huge.specs.declared.spot.HugeSpot.{HugeSpot}
@@ -107,8 +113,24 @@ told_moving (Some Bare) node = stayed
 told_moving (Some Reserved) node = stayed
 told_moving None node = stayed
 
--- mbind(2) with MPOL_MF_MOVE: a page goes to the first node of its list that has a free page
--- which isn't reserved; where none has, to the first of the list
+-- ---- mbind(2) with MPOL_MF_MOVE
+
+abbrev pub is_many : Mode → Bool
+is_many PreferredMany = true
+is_many _ = false
+
+-- the nodes of a page's list to which it may go by a policy: of many preferred ones those alone
+-- (that are allowed, as all of a list are), else all
+abbrev pub named_by : Option PolicyRecord → List ℕ → List ℕ
+named_by None list = list
+named_by (Some r) list = if is_many r.spec.mode then within r.effective list else list
+
+-- those of a page, for a fault of the task on the node
+abbrev pub named_in : SpaceState → ℕ → ℕ → ℕ → List ℕ
+named_in space task cpu page = named_by (policy_in space task page) (nodes_in space task cpu page)
+
+-- a page goes to the first of these nodes that has a free page which isn't reserved; where none
+-- has, to the first of them
 abbrev pub or_first : Option ℕ → List ℕ → Option ℕ
 or_first (Some node) nodes = Some node
 or_first None [] = None
@@ -132,11 +154,18 @@ pub record HugeWalk : Type 0 where
 abbrev pub walk_from : HugeLying → HugeWalk
 walk_from huge = record { huge = huge; told = stayed }
 
--- a page that lies astray goes; one that has no list stays
+-- a page that lies on a node goes to another; or stays, and a free page of its own node takes its
+-- place, where one serves
+abbrev pub replacing : ℕ → ℕ → ℕ → HugeLying → HugeLying
+replacing page from to huge = if from == to
+    then record huge { pools = renewing huge.pools from }
+    else passing page from to huge
+
+-- a page that lies astray goes; one that has no node to go to stays
 abbrev pub sending : ℕ → ℕ → Option ℕ → HugeWalk → HugeWalk
 sending page from None walk = record walk { told = with_left walk.told }
 sending page from (Some to) walk = record {
-  huge = passing page from to walk.huge;
+  huge = replacing page from to walk.huge;
   told = with_moved from to walk.told;
 }
 
@@ -151,7 +180,7 @@ abbrev pub sent_page : ℕ → (ℕ → List ℕ) → ℕ → HugeWalk → HugeW
 sent_page list nodes page walk = sent_where (is_astray list (walk.huge.spots page))
     (walk.huge.spots page) page (nodes page) walk
 
--- the pages from one on go, the lowest first, each by its own list of nodes
+-- the pages from one on go, the lowest first, each to one of its own nodes
 unfoldable pub sent_pages : ℕ → (ℕ → List ℕ) → ℕ → ℕ → HugeWalk → HugeWalk
 sent_pages list nodes first zero walk = walk
 sent_pages list nodes first (suc pages) walk =

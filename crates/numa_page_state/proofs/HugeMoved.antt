@@ -17,16 +17,18 @@ use Rattle.numa_requests.specs.declared.page_refusal.PlacedRefusal.TheVariants a
 use Rattle.numa_space.specs.History.{page_count, page_of}
 use Rattle.numa_space.specs.Pages.{page_in}
 use Rattle.numa_space.specs.Refusals.{refusal_of}
-use Rattle.numa_space.specs.Standing.{SpaceState, StandsFor}
+use Rattle.numa_space.specs.Standing.{SpaceState, StandsFor, policy_in}
+use Rattle.numa_space.proofs.Lists.{policy-same}
+use Rattle.numa_mode.specs.Policy.{PolicyRecord}
 use Rattle.numa_placed.specs.Astray.{judged_pages}
-use Rattle.numa_placed.specs.Binds.{nodes_in}
 use Rattle.numa_placed.specs.Refusals.{lacks_node, move_cause}
 use Rattle.numa_placed.specs.declared.moved.Moved.{Moved}
 use Rattle.numa_placed.specs.declared.spot.Spot.{Spot}
 use Rattle.numa_pools.specs.Pools.{moving_one}
 use Rattle.numa_huge.specs.Huge.{HugeLying, HugePlaced, huge_at, lack_for, node_of, places_of}
 use Rattle.numa_huge.specs.Huge.{too_many, with_span}
-use Rattle.numa_huge.specs.Moves.{HugeMemory, HugeTold, following, is_astray, moved_to, passing}
+use Rattle.numa_huge.specs.Moves.{HugeMemory, HugeTold, following, is_astray, moved_to, named_by}
+use Rattle.numa_huge.specs.Moves.{named_in, passing}
 use Rattle.numa_huge.specs.Moves.{sent_pages, stayed, told_following, told_moving, walk_from}
 use Rattle.numa_huge.specs.Tallies.{HasTold, IsLackFor, IsMemory, IsWalk}
 use Rattle.numa_huge.specs.declared.last.Flows.{Flows}
@@ -38,7 +40,7 @@ use Rattle.numa_huge.specs.declared.spot.HugeSpot.TheVariants.{Bare, On, Reserve
 use Rattle.numa_page_state.specs.Huge.{HugeMoves, huge_astray, huge_count, huge_first}
 use Rattle.numa_page_state.specs.Huge.{huge_followed, huge_move, huge_move_cause, huge_move_lack}
 use Rattle.numa_page_state.specs.Huge.{huge_walk, huge_walk_in, move_lack_by, move_unless_lack}
-use Rattle.numa_page_state.specs.Huge.{moved_in, spot_of}
+use Rattle.numa_page_state.specs.Huge.{moved_in, named_of, spot_of}
 use Rattle.numa_page_state.specs.Lying.{Ground, process_in}
 use Rattle.numa_page_state.specs.Outcomes.{Enough, Lack, Starved, is_starved}
 use Rattle.numa_page_state.specs.Sending.{command_of, nodes_of}
@@ -231,28 +233,39 @@ astray-same space history kept memory said runs first pages judged is stands by 
     p ∙ ap (huge_count (page_of said.start)) count in
     λ i. any_page (λ page. is_astray said.list ((is i).spots page)) (f i) (long i)
 
+-- the nodes to which a page may go
+named-same : (space : SpaceState) (history : List Command) (toucher : Toucher) (page : ℕ)
+    → StandsFor space history → named_in space toucher.task toucher.cpu page
+    ≡ named_of space.machine history toucher page
+named-same space history toucher page stands =
+    ap (λ (nodes : List ℕ). named_by (policy_in space toucher.task page) nodes)
+    (nodes-same space history toucher page stands)
+    ∙ ap (λ (policy : Option PolicyRecord). named_by policy
+    (nodes_of space.machine history toucher page))
+    (policy-same space history toucher.task page stands)
+
 -- pages of a span go in a space that has the policy
 pub walk-same : (space : SpaceState) (said : Rebinding) (toucher : Toucher) (memory : HugeMemory)
     (huge after : HugePlaced) (flows : Flows) (list first pages : ℕ)
     → places_of huge ≡ memory.pages → list ≡ said.spec.mask
     → first ≡ huge_first (page_of said.start)
     → pages ≡ huge_count (page_of said.start) (page_count said.length)
-    → IsWalk (sent_pages list (λ page. nodes_in space toucher.task toucher.cpu (page * 512)) first
+    → IsWalk (sent_pages list (λ page. named_in space toucher.task toucher.cpu (page * 512)) first
     pages (walk_from (places_of huge))) after flows
     → IsWalk (huge_walk_in space said toucher memory) after flows
 walk-same space said toucher memory huge after flows list first pages is l f p walk =
     subst (λ (h : HugeLying). IsWalk (sent_pages said.spec.mask
-    (λ page. nodes_in space toucher.task toucher.cpu (page * 512))
+    (λ page. named_in space toucher.task toucher.cpu (page * 512))
     (huge_first (page_of said.start)) (huge_count (page_of said.start) (page_count said.length))
     (walk_from h)) after flows) is
     (subst (λ (n : ℕ). IsWalk (sent_pages said.spec.mask
-    (λ page. nodes_in space toucher.task toucher.cpu (page * 512))
+    (λ page. named_in space toucher.task toucher.cpu (page * 512))
     (huge_first (page_of said.start)) n (walk_from (places_of huge))) after flows) p
     (subst (λ (n : ℕ). IsWalk (sent_pages said.spec.mask
-    (λ page. nodes_in space toucher.task toucher.cpu (page * 512)) n pages
+    (λ page. named_in space toucher.task toucher.cpu (page * 512)) n pages
     (walk_from (places_of huge))) after flows) f
     (subst (λ (n : ℕ). IsWalk (sent_pages n
-    (λ page. nodes_in space toucher.task toucher.cpu (page * 512)) first pages
+    (λ page. named_in space toucher.task toucher.cpu (page * 512)) first pages
     (walk_from (places_of huge))) after flows) l walk)))
 
 -- which the process has then
@@ -262,10 +275,10 @@ pub walk-by : (space : SpaceState) (history : List Command) (kept : Kept) (said 
     → IsWalk (huge_walk_in with_it said toucher memory) after flows
     → IsWalk (huge_walk (process_in space history kept) said toucher memory) after flows
 walk-by space history kept said toucher memory with_it after flows has walk =
-    let nodes : (page : ℕ) → nodes_in with_it toucher.task toucher.cpu page
-    ≡ nodes_of space.machine (command_of said ∷ history) toucher page =
-    λ page. nodes-same with_it (command_of said ∷ history) toucher page has.stands
-    ∙ ap (λ (machine : Hardware). nodes_of machine (command_of said ∷ history) toucher page)
+    let nodes : (page : ℕ) → named_in with_it toucher.task toucher.cpu page
+    ≡ named_of space.machine (command_of said ∷ history) toucher page =
+    λ page. named-same with_it (command_of said ∷ history) toucher page has.stands
+    ∙ ap (λ (machine : Hardware). named_of machine (command_of said ∷ history) toucher page)
     has.machine in
     subst (λ (lists : ℕ → List ℕ). IsWalk (sent_pages said.spec.mask (λ page. lists (page * 512))
     (huge_first (page_of said.start)) (huge_count (page_of said.start) (page_count said.length))
@@ -277,7 +290,7 @@ pub walk-if : (space : SpaceState) (said : Rebinding) (toucher : Toucher) (memor
     → first ≡ huge_first (page_of said.start)
     → pages ≡ huge_count (page_of said.start) (page_count said.length)
     → IfOk result (λ done. IsWalk (sent_pages list
-    (λ page. nodes_in space toucher.task toucher.cpu (page * 512)) first pages
+    (λ page. named_in space toucher.task toucher.cpu (page * 512)) first pages
     (walk_from (places_of huge))) done.0 done.1)
     → IfOk result (λ done. IsWalk (huge_walk_in space said toucher memory) done.0 done.1)
 walk-if space said toucher memory huge (Ok done) list first pages is l f p walk =

@@ -16,9 +16,9 @@ use Rattle.numa_requests.specs.declared.page_refusal.PlacedRefusal.{PlacedRefusa
 use Rattle.numa_requests.specs.declared.page_refusal.PlacedRefusal.TheVariants as cause
 use Rattle.numa_requests.specs.declared.placement.Placement.{Placement}
 use Rattle.numa_space.specs.History.{page_of, page_count}
+use Rattle.numa_space.specs.Pages.{resolved_policy}
 use Rattle.numa_space.specs.Standing.{SpaceState}
 use Rattle.numa_maps.specs.Residents.{placed_at}
-use Rattle.numa_placed.specs.Binds.{nodes_in}
 use Rattle.numa_placed.specs.Laid.{Laid}
 use Rattle.numa_placed.specs.Refusals.{move_cause}
 use Rattle.numa_placed.specs.Spots.{node_of as small_node, spot_at}
@@ -29,8 +29,8 @@ use Rattle.numa_placed.specs.declared.spot.Spot.TheVariants.{Nowhere, Stated}
 use Rattle.numa_huge.specs.Huge.{HugeLying, HugePlaced, faulting, giver_for, has_huge, lack_for}
 use Rattle.numa_huge.specs.Huge.{most_pages, node_of, places_of, unmapping, with_span}
 use Rattle.numa_huge.specs.Moves.{HugeMemory, HugeTouch, HugeWalk, following, is_astray, moved_to}
-use Rattle.numa_huge.specs.Moves.{sent_pages, stayed, told_following, told_moving, touch_from}
-use Rattle.numa_huge.specs.Moves.{touched_pages, walk_from}
+use Rattle.numa_huge.specs.Moves.{named_by, named_in, sent_pages, stayed, told_following}
+use Rattle.numa_huge.specs.Moves.{told_moving, touch_from, touched_pages, walk_from}
 use Rattle.numa_huge.specs.Tallies.{IsMemory}
 use Rattle.numa_huge.specs.declared.arrived.HugeArrived.{HugeArrived}
 use Rattle.numa_huge.specs.declared.last.HugeLast.{HugeLast}
@@ -214,10 +214,16 @@ huge_astray process memory said =
     (huge_first (page_of said.start))
     (huge_count (page_of said.start) (judged_of process said))
 
--- pages of the span go that lie astray, each by its own list of nodes with the policy
+-- the nodes to which a page of 2 MiB may go, for a fault of the task on the node
+abbrev pub named_of : Hardware → List Command → Toucher → ℕ → List ℕ
+named_of machine history toucher page =
+    named_by (resolved_policy machine history toucher.task page)
+    (nodes_of machine history toucher page)
+
+-- pages of the span go that lie astray, each to one of its own nodes with the policy
 abbrev pub huge_walk : Process → Rebinding → Toucher → HugeMemory → HugeWalk
 huge_walk process said toucher memory = sent_pages said.spec.mask
-    (λ page. nodes_of process.machine (command_of said ∷ process.history) toucher (page * 512))
+    (λ page. named_of process.machine (command_of said ∷ process.history) toucher (page * 512))
     (huge_first (page_of said.start)) (huge_count (page_of said.start) (page_count said.length))
     (walk_from memory.pages)
 
@@ -362,5 +368,5 @@ HugeGoes old result new basis page node = (last : HugeLast) (arrived : Option Hu
 -- pages of a span went in a space that has the policy
 abbrev pub huge_walk_in : SpaceState → Rebinding → Toucher → HugeMemory → HugeWalk
 huge_walk_in space said toucher memory = sent_pages said.spec.mask
-    (λ page. nodes_in space toucher.task toucher.cpu (page * 512)) (huge_first (page_of said.start))
+    (λ page. named_in space toucher.task toucher.cpu (page * 512)) (huge_first (page_of said.start))
     (huge_count (page_of said.start) (page_count said.length)) (walk_from memory.pages)

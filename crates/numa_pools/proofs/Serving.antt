@@ -243,7 +243,7 @@ served-more pools next from to pages so f u = elim (cases_lt 0 (surplus_at pools
 ]
 
 -- a target with a page to spare has a free page, and one is not reserved
-spare-both : (pools : PoolCounts) (to : ℕ) → has_spare pools to ≡ true
+pub spare-both : (pools : PoolCounts) (to : ℕ) → has_spare pools to ≡ true
     → (0 < unreserved pools) × (0 < free_at pools to)
 spare-both pools to spare = elim (cases_lt pools.reserved (sum pools.free)) [
   | inl l ↦ elim (cases_lt 0 (free_at pools to)) [

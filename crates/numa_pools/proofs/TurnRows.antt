@@ -2,6 +2,7 @@
 use Rattle.std.proofs.Common.{◌≡◌, Some, None, refl}
 use Rattle.numa_pools.specs.Turns.{in_turn, on, ring, turn}
 use Rattle.numa_pools.specs.Pools.{PoolCounts, freeing, freeing_one, giving_back, moving_one}
+use Rattle.numa_pools.specs.Pools.{renewing}
 use Rattle.numa_pools.specs.Pools.{refusing, most}
 use Rattle.numa_pools.specs.Moves.{movable, moving}
 use Rattle.numa_pools.specs.Resize.{node_refusal, resized}
@@ -91,6 +92,25 @@ reserved-stays : moving_one (pools_with (four 1 1 0 0) (four 0 1 0 0) (four 0 0 
     ≡ pools_with (four 0 2 0 0) (four 0 1 0 0) (four 0 0 0 0) 1 0 0
 unfolding moving_one freeing_one
 reserved-stays = refl
+
+-- a page that moves to its own node: a free page serves, and the old one ends by the node's surplus
+-- (`mbind .. local move` on node 0, with two used pages of which one was unmapped, and one surplus)
+renewed-ends : renewing (pools_with (four 2 1 0 0) (four 1 0 0 0) (four 1 0 0 0) 0 1 0) 0
+    ≡ pools_with (four 1 1 0 0) (four 0 0 0 0) (four 0 0 0 0) 0 1 0
+unfolding renewing freeing_one
+renewed-ends = refl
+
+-- without surplus nothing is to be seen
+renewed-same : renewing (pools_with (four 2 1 0 0) (four 1 0 0 0) (four 0 1 0 0) 0 1 0) 0
+    ≡ pools_with (four 2 1 0 0) (four 1 0 0 0) (four 0 1 0 0) 0 1 0
+unfolding renewing freeing_one
+renewed-same = refl
+
+-- a reserved page doesn't serve
+renewed-not : renewing (pools_with (four 2 1 0 0) (four 1 0 0 0) (four 1 0 0 0) 1 1 0) 0
+    ≡ pools_with (four 2 1 0 0) (four 1 0 0 0) (four 1 0 0 0) 1 1 0
+unfolding renewing freeing_one
+renewed-not = refl
 
 -- of three pages one is served, and ends the node's surplus page: then all free ones are reserved,
 -- and two pages of the total change nodes

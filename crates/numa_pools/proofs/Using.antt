@@ -1,24 +1,24 @@
 -- How many pages of each node are used, whatever takes and gives.
 use Rattle.std.proofs.Common.{◌≡◌, ◌≢◌, ℕ, ◌+◌, ◌-◌, ◌<◌, ◌≤◌, Bool, List, length, min, sym}
-use Rattle.std.proofs.Common.{ap, ◌∙◌, arith, inl, inr, refl, set}
-use Rattle.std.specs.Prelude.{slice_index, sum}
-use Rattle.std.proofs.lemmas.Bool.{cases_lt, le-ltb, lt-ltb}
+use Rattle.std.proofs.Common.{ap, ◌∙◌, arith, inl, inr, refl, set, subst, true, false}
+use Rattle.std.specs.Prelude.{if◌then◌else◌, nat_lt, slice_index, sum}
+use Rattle.std.proofs.lemmas.Bool.{cases_Bool, cases_eq, cases_lt, le-ltb, lt-ltb}
 use Rattle.std.proofs.lemmas.List.{get_or-set_other, get_or-set_same}
 use Rattle.numa_pools.specs.declared.shares.Shares.{Shares}
-use Rattle.numa_pools.specs.Turns.{in_turn, least}
-use Rattle.numa_pools.specs.Pools.{PoolCounts, end_surplus, free_at, freeing, giving_back, most}
-use Rattle.numa_pools.specs.Pools.{refusing, reserving, surplus_at, taking, total_at, unreserved}
-use Rattle.numa_pools.specs.Pools.{used_at}
+use Rattle.numa_pools.specs.Turns.{in_turn, least, one_less_at}
+use Rattle.numa_pools.specs.Pools.{PoolCounts, end_surplus, free_at, freeing, freeing_one}
+use Rattle.numa_pools.specs.Pools.{giving_back, has_spare, most, one_more_at, refusing, renewing}
+use Rattle.numa_pools.specs.Pools.{reserving, surplus_at, taking, total_at, unreserved, used_at}
 use Rattle.numa_pools.specs.Moves.{carried, movable, moving, served}
 use Rattle.numa_pools.specs.Resize.{resized}
 use Rattle.numa_pools.specs.Kept.{AreKept}
 use Rattle.numa_pools.proofs.Asked.{resize-keeps}
 use Rattle.numa_pools.proofs.Carrying.{AreMoved, AreTwo, over-at, two-of}
 use Rattle.numa_pools.proofs.Each.{at-le-sum, least-at, length-each, less-at}
-use Rattle.numa_pools.proofs.Keeping.{AreShares, kept-reserved, shares-are}
+use Rattle.numa_pools.proofs.Keeping.{AreShares, kept-reserved, kept-taking, shares-are}
 use Rattle.numa_pools.proofs.Moving.{freed, freeing-is}
 use Rattle.numa_pools.proofs.Serving.{AreFreed, AreServing, carried_of, freed-are, moved-are}
-use Rattle.numa_pools.proofs.Serving.{served-few, served_of, serving-most}
+use Rattle.numa_pools.proofs.Serving.{served-few, served_of, serving-most, spare-both}
 
 -- ---- pages that come and go free
 
@@ -121,6 +121,53 @@ freeing-others pools node pages kept l other ne =
     other) (get_or-set_other pools.total node other (total_at pools node - few) 0 ne)
     ∙ ap (λ (n : ℕ). total_at pools other - n)
     (get_or-set_other pools.free node other (free_at pools node + (pages - few)) 0 ne)
+
+-- ---- a page that moves to its own node
+
+-- as many pages of each node are used as before
+pub renewing-used : (pools : PoolCounts) (node : ℕ) → AreKept pools → node < 256 → (other : ℕ)
+    → used_at (renewing pools node) other ≡ used_at pools other
+unfolding renewing
+renewing-used pools node kept l other = elim (cases_Bool (has_spare pools node)) [
+  | inl spare ↦
+      let both = spare-both pools node spare in
+      let taken : PoolCounts = taking pools node false in
+      let so : AreKept taken = kept-taking pools node false kept l both.1
+      (lt-ltb pools.reserved (sum pools.free) (omega (arith, both.0))) in
+      rw spare (elim (cases_eq other node) [
+        | inl e ↦ subst (λ (k : ℕ). used_at (freeing taken node 1) k ≡ used_at pools k) (sym e)
+            (omega (
+              arith,
+              freeing-used taken node 1 so l (omega (
+                arith,
+                both.1,
+                kept.within node,
+                get_or-set_same pools.free node (free_at pools node - 1) 0
+                    (omega (arith, l, kept.frees)),
+              )),
+              taking-used pools node false kept l both.1,
+            ))
+        | inr ne ↦ freeing-others taken node 1 so l other ne
+            ∙ taking-others pools node false other ne
+      ])
+  | inr none ↦ rw none refl
+]
+
+pub renewing-reserved : (pools : PoolCounts) (node : ℕ)
+    → (renewing pools node).reserved ≡ pools.reserved
+unfolding renewing freeing_one
+renewing-reserved pools node = by (has_spare pools node) (nat_lt 0 (surplus_at pools node))
+  where
+    by : (spare some : Bool) → (if spare
+        then if some then record pools {
+          total = one_less_at pools.total node;
+          free = one_less_at pools.free node;
+          surplus = one_less_at pools.surplus node;
+        } else record pools { free = one_more_at (one_less_at pools.free node) node }
+        else pools).reserved ≡ pools.reserved
+    by true true = refl
+    by true false = refl
+    by false some = refl
 
 -- ---- pages that move
 

@@ -182,3 +182,11 @@ moving_one pools from to =
     if has_spare pools to
     then freeing_one (record pools { free = one_less_at pools.free to }) from
     else if can_move pools to then carrying pools from to else pools
+
+-- a page that moves to its own node: a free page of the node serves, if one is there that is not
+-- reserved, and the old one becomes free, or ends
+unfoldable pub renewing : PoolCounts → ℕ → PoolCounts
+renewing pools node =
+    if has_spare pools node
+    then freeing_one (record pools { free = one_less_at pools.free node }) node
+    else pools

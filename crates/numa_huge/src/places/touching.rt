@@ -22,7 +22,7 @@ use numa_requests::PlacedRefusal;
 use numa_space::Space;
 
 /// The parts of 4 KiB of a page.
-const PARTS: u64 = 512;
+pub(crate) const PARTS: u64 = 512;
 
 /// Puts a page on a node.
 ///

@@ -1,7 +1,7 @@
 //! Pages that become free, and pages that move.
 ghost use Rattle.std.specs.Prelude.{◌≡◌, ◌≢◌, ◌+◌, ◌-◌, ◌≤◌, ◌<◌, min};
 ghost use Rattle.numa_pools.specs.Pools.{can_move, free_at, freeing, has_spare, most, moving_one};
-ghost use Rattle.numa_pools.specs.Pools.{surplus_at, total_at, unreserved};
+ghost use Rattle.numa_pools.specs.Pools.{renewing, surplus_at, total_at, unreserved};
 ghost use Rattle.numa_pools.specs.Moves.{carried, movable, moving, served, serving};
 
 use crate::counts::MOST;
@@ -107,5 +107,19 @@ impl Pools {
         ensures { self.new ≡ moving_one self.old from to }
     {
         let _moved = self.move_pages(from, to, 1);
+    }
+
+    /// A page, which a process has, moves to its own node: where a free page of the node serves,
+    /// one that is not reserved, the old one becomes free, and ends if the node has surplus. Else
+    /// nothing has changed.
+    pub fn renew_page(&mut self, node: u8)
+        ensures { self.new ≡ renewing self.old node }
+    {
+        self.keep();
+        if !self.has_spare(node) {
+            return;
+        }
+        self.free[node as usize] -= 1;
+        self.free_pages(node, 1);
     }
 }

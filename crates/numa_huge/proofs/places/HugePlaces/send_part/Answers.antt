@@ -1,7 +1,6 @@
 use Rattle.std.proofs.Common.{◌*◌, ◌+◌, ◌-◌, ℕ, List, arith, refl}
-use Rattle.numa_placed.specs.Binds.{nodes_in}
 use Rattle.numa_huge.specs.Huge.{places_of}
-use Rattle.numa_huge.specs.Moves.{sent_pages}
+use Rattle.numa_huge.specs.Moves.{named_in, sent_pages}
 use Rattle.numa_huge.proofs.Keeping.{keeps-same, keeps-then}
 use Rattle.numa_huge.proofs.Where.{sending-end, sending-next}
 use Rattle.numa_huge.proofs.places.HugePlaces.send_part.Goals as goal
@@ -29,7 +28,7 @@ send_page-requires-clause-left c = omega (
 pub loop-page-preserved : goal.loop-page-preserved
 loop-page-preserved c =
     let nodes : ℕ → List ℕ =
-    λ page. nodes_in c.args.space.now c.args.task c.args.cpu (page * 512) in
+    λ page. named_in c.args.space.now c.args.task c.args.cpu (page * 512) in
     let page : ℕ = c.loop-page.page in
     record {
       sending = λ told has.
@@ -59,7 +58,7 @@ returns-clause-left c = omega (arith, c.loop-page.invariant.few, c.loop-page.inv
 pub returns-clause-sent : goal.returns-clause-sent
 returns-clause-sent c told has =
     let nodes : ℕ → List ℕ =
-    λ page. nodes_in c.args.space.now c.args.task c.args.cpu (page * 512) in
+    λ page. named_in c.args.space.now c.args.task c.args.cpu (page * 512) in
     sending-end c.args.said.now nodes (sent_pages c.args.said.now nodes c.args.from
     (c.args.to - c.args.from) (record { huge = places_of c.args.self.now; told = told }))
     c.loop-page.page (c.args.to - c.loop-page.page) c.loop-page.self c.loop-page.flows

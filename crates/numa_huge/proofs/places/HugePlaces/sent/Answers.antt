@@ -2,10 +2,9 @@ use Rattle.std.proofs.Common.{◌≡◌, ◌<◌, ◌*◌, ◌+◌, ◌-◌, ◌
 use Rattle.std.proofs.Common.{subst, sym}
 use Rattle.numa_ranges.specs.Runs.{end_of}
 use Rattle.numa_ranges.specs.declared.run.Run.{Run}
-use Rattle.numa_placed.specs.Binds.{nodes_in}
 use Rattle.numa_placed.proofs.Stating.{AreLeft, left-fits, left-next}
 use Rattle.numa_huge.specs.Huge.{HugePlaced, huge_at, places_of, spot_in}
-use Rattle.numa_huge.specs.Moves.{HugeWalk, is_astray, sent_pages, walk_from}
+use Rattle.numa_huge.specs.Moves.{HugeWalk, is_astray, named_in, sent_pages, walk_from}
 use Rattle.numa_huge.specs.declared.spot.HugeSpot.{HugeSpot}
 use Rattle.numa_huge.proofs.Keeping.{keeps-same, keeps-then}
 use Rattle.numa_huge.proofs.Sending.{part-within, reached-end, reached-from, reached-next}
@@ -21,7 +20,7 @@ loop-run-init c =
     record {
       reached = record {
         sent = sending-start c.args.list.now
-            (λ page. nodes_in c.args.space.now c.args.task c.args.cpu (page * 512)) c.args.first
+            (λ page. named_in c.args.space.now c.args.task c.args.cpu (page * 512)) c.args.first
             c.args.pages (c.args.first + c.args.pages - c.args.first) c.in-Ok.sent c.args.self.now
             c.new-flows.result (omega arith) c.in-Ok.ensures c.new-flows.ensures.told;
         ahead = λ p low far. ap (λ (h : HugePlaced). huge_at h.runs p) c.in-Ok.ensures
@@ -47,7 +46,7 @@ overflow_add-behind c =
 pub returns-then-run-end-clause-sent : goal.returns-then-run-end-clause-sent
 returns-then-run-end-clause-sent c =
     let nodes : ℕ → List ℕ =
-    λ page. nodes_in c.args.space.now c.args.task c.args.cpu (page * 512) in
+    λ page. named_in c.args.space.now c.args.task c.args.cpu (page * 512) in
     reached-over c.args.list.now nodes (sent_pages c.args.list.now nodes c.args.first c.args.pages
     (walk_from (places_of c.args.self.now))) (c.args.first + c.args.pages) c.loop-run.page
     c.loop-run.sent c.loop-run.flows c.loop-run.run-iterator c.next.new.self c.in-Some.run'
@@ -80,7 +79,7 @@ send_part-requires-clause-left c = omega (arith, c.loop-run.invariant.few, c.max
 pub loop-run-preserved : goal.loop-run-preserved
 loop-run-preserved c =
     let nodes : ℕ → List ℕ =
-    λ page. nodes_in c.args.space.now c.args.task c.args.cpu (page * 512) in
+    λ page. named_in c.args.space.now c.args.task c.args.cpu (page * 512) in
     let list : ℕ = c.args.list.now in
     let all : HugeWalk =
     sent_pages list nodes c.args.first c.args.pages (walk_from (places_of c.args.self.now)) in
@@ -129,7 +128,7 @@ returns-clause-keeps c = c.loop-run.invariant.keeps
 pub returns-clause-sent : goal.returns-clause-sent
 returns-clause-sent c =
     let nodes : ℕ → List ℕ =
-    λ page. nodes_in c.args.space.now c.args.task c.args.cpu (page * 512) in
+    λ page. named_in c.args.space.now c.args.task c.args.cpu (page * 512) in
     reached-end c.args.list.now nodes (sent_pages c.args.list.now nodes c.args.first c.args.pages
     (walk_from (places_of c.args.self.now))) (c.args.first + c.args.pages) c.loop-run.page
     c.loop-run.sent c.loop-run.flows c.loop-run.run-iterator c.in-None.ensures.steps.0
