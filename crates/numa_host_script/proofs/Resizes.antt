@@ -125,15 +125,18 @@ module _ (old : RunningHost) (node allowed pages : ℕ) where
   count = min pages most_said
 
   by-refusal : (at : Hosting) → RunsAs old at → (why : Option PoolRefusal)
-      → why ≡ node_refusal old.pages.huge.pools node count
+      → why ≡ node_refusal old.host.blank.machine.nodes old.pages.huge.pools node count
       → resizes plenty at ≡ resize_unless why node allowed count at
   by-refusal at stands why refusal =
       ap (λ (o : Option PoolRefusal). resize_unless o node allowed count at)
-      (ap (λ (p : PoolCounts). node_refusal p node count) (sym stands.lies.huge.pools)
-      ∙ sym refusal)
+      (ap (λ (p : PoolCounts). node_refusal at.machine.nodes p node count)
+      (sym stands.lies.huge.pools)
+      ∙ ap (λ (m : Hardware). node_refusal m.nodes old.pages.huge.pools node count)
+      (sym stands.machine) ∙ sym refusal)
 
   pub node-refused : (kept : HugeKept) → kept ≡ old.pages.huge → (why : PoolRefusal)
-      → Some why ≡ node_refusal old.pages.huge.pools node (min pages most_said)
+      → Some why ≡ node_refusal old.host.blank.machine.nodes old.pages.huge.pools node
+      (min pages most_said)
       → Replies old (reply.HugeRefused (pool_refusal why)) (with_shared old kept) resizes
   node-refused kept same why refusal = λ at stands.
       alike (reply.HugeRefused (pool_refusal why)) (with_shared old kept) at resizes plenty
@@ -141,7 +144,8 @@ module _ (old : RunningHost) (node allowed pages : ℕ) where
       (subst (λ (k : HugeKept). RunsAs (with_shared old k) at) (sym same) stands)
 
   pub node-resized : (kept : HugeKept)
-      → None ≡ node_refusal old.pages.huge.pools node (min pages most_said)
+      → None ≡ node_refusal old.host.blank.machine.nodes old.pages.huge.pools node
+      (min pages most_said)
       → ((at : Sharing) → HugeLies old.pages.huge at → HugeLies kept
       (with_pools (resized_node node allowed (min pages most_said) at.pools) at))
       → ComesTo old taken.Pools (with_shared old kept) resizes
@@ -159,13 +163,15 @@ module _ (old : RunningHost) (node allowed pages : ℕ) where
 -- what was asked of it, by the number that the line says
 module _ (old : RunningHost) (node pages : ℕ) where
   abbrev pub refusal_here : Option PoolRefusal
-  refusal_here = node_refusal old.pages.huge.pools node (min pages most_said)
+  refusal_here = node_refusal old.host.blank.machine.nodes old.pages.huge.pools node
+      (min pages most_said)
 
-  module _ (small count : ℕ) (same : small ≡ node) (is : count ≡ min pages most_said)
+  module _ (nodes small count : ℕ) (many : nodes ≡ old.host.blank.machine.nodes)
+      (same : small ≡ node) (is : count ≡ min pages most_said)
       (result : Result (Unit {0}) PoolRefusal)
-      (refusal : result_err result ≡ node_refusal old.pages.huge.pools small count) where
+      (refusal : result_err result ≡ node_refusal nodes old.pages.huge.pools small count) where
     told-here : result_err result ≡ refusal_here
-    told-here = refusal ∙ (λ i. node_refusal old.pages.huge.pools (same i) (is i))
+    told-here = refusal ∙ (λ i. node_refusal (many i) old.pages.huge.pools (same i) (is i))
 
     pub node-free : result ≡ Ok tt → None ≡ refusal_here
     node-free ok = free-of result told-here ok
@@ -173,13 +179,14 @@ module _ (old : RunningHost) (node pages : ℕ) where
     pub node-why : (why : PoolRefusal) → result ≡ Err why → Some why ≡ refusal_here
     node-why why err = why-of result why told-here err
 
--- no node above 255 has memory
-pub node-none : (old : RunningHost) (node allowed pages : ℕ)
-    → old.pages.huge.pools.memory < 2 ^ 256 → 256 ≤ node
+-- the machine lacks the node
+pub node-none : (old : RunningHost) (nodes node allowed pages : ℕ)
+    → nodes ≡ old.host.blank.machine.nodes → nodes ≤ node
     → Replies old (reply.HugeRefused because.NoSuchNode) old (resizes old node allowed pages)
-node-none old node allowed pages few far =
+node-none old nodes node allowed pages many far =
     node-refused old node allowed pages old.pages.huge refl pool.NoSuchNode
-    (none-above old.pages.huge.pools node (min pages most_said) few far)
+    (none-above old.pages.huge.pools nodes node (min pages most_said) far
+    ∙ ap (λ (n : ℕ). node_refusal n old.pages.huge.pools node (min pages most_said)) many)
 
 -- ---- a line of a process
 

@@ -51,9 +51,8 @@ fn resize_node(running: &mut RunningHost, node: u32, allowed: &NodeMask, pages: 
     ensures { ComesTo running.old result running.new
         (λ lack at. resize_node_outcome node allowed.now pages at) }
 {
-    if node > 255 {
-        // Tells the proof that nodes with memory are below 256.
-        let _ = running.pages.huge.pools().memory().weight();
+    let nodes = running.host.machine().nodes();
+    if node >= nodes {
         return HostTaken::Reply(Reply::HugeRefused(HugeRefusal::NoSuchNode));
     }
     let Some(node) = NodeId::new(node as u8) else {
@@ -62,7 +61,7 @@ fn resize_node(running: &mut RunningHost, node: u32, allowed: &NodeMask, pages: 
     match running
         .pages
         .huge
-        .resize_node(node, allowed, pages.min(MOST_PAGES))
+        .resize_node(nodes, node, allowed, pages.min(MOST_PAGES))
     {
         Ok(()) => HostTaken::Pools,
         Err(why) => HostTaken::Reply(Reply::HugeRefused(pool_refusal(why))),

@@ -126,30 +126,31 @@ pub fn resizing_nodes(policy: Option<Record>, memory: &NodeMask, cpu: u32) -> No
     nodes
 }
 
-/// Makes the pool of a node have so many pages, whatever number says the node.
+/// Makes the pool of a node have so many pages, whatever number says the node, on a machine of
+/// `nodes` nodes.
 ///
 /// # Errors
 /// As [`Pools::resize_node`](numa_pools::Pools::resize_node). Then nothing has changed.
 pub fn resize_node(
     places: &mut HugePlaces,
+    nodes: u32,
     node: u32,
     allowed: &NodeMask,
     pages: u64,
 ) -> Result<(), PoolRefusal>
-    requires { pages < 2 ^ 63 }
-    ensures refusal { result_err result ≡ node_refusal places.old.pools node pages }
+    requires nodes { nodes ≤ 256 }
+    requires pages { pages < 2 ^ 63 }
+    ensures refusal { result_err result ≡ node_refusal nodes places.old.pools node pages }
     ensures resized { OnOk result
         (places.new.pools ≡ resized_node node allowed.now pages places.old.pools) }
     ensures unchanged { OnErr result (places.new ≡ places.old) }
     ensures runs { places.new.runs ≡ places.old.runs }
 {
-    if node > 255 {
-        // Tells the proof that nodes with memory are below 256.
-        let _ = places.pools().memory().weight();
+    if node >= nodes {
         return Err(PoolRefusal::NoSuchNode);
     }
     let Some(node) = NodeId::new(node as u8) else {
         unreachable!()
     };
-    places.resize_node(node, allowed, pages)
+    places.resize_node(nodes, node, allowed, pages)
 }

@@ -46,7 +46,8 @@ ResizesAll pages before answer after =
 pub record ResizesNode (node pages : ℕ) (before : PagesState)
     (answer : Result (Unit {0}) HugeRefusal) (after : PagesState) : Type 0 where
   pub refusal : result_err answer
-      ≡ option_map pool_refusal (node_refusal before.huge.pools node (said_pages pages))
+      ≡ option_map pool_refusal (node_refusal before.core.space.machine.nodes before.huge.pools
+      node (said_pages pages))
   pub resized_is : OnOk answer (after ≡ with_pools
       (resized_node node before.core.space.allowed (said_pages pages) before.huge.pools) before)
   pub unchanged : OnErr answer (after ≡ before)

@@ -5,7 +5,7 @@ use Rattle.numa_pools.specs.Pools.{PoolCounts, freeing, freeing_one, giving_back
 use Rattle.numa_pools.specs.Pools.{renewing}
 use Rattle.numa_pools.specs.Pools.{refusing, most}
 use Rattle.numa_pools.specs.Moves.{movable, moving}
-use Rattle.numa_pools.specs.Resize.{node_refusal, resized}
+use Rattle.numa_pools.specs.Resize.{node_refusal, resized, resized_node}
 use Rattle.numa_pools.specs.declared.refusal.PoolRefusal.TheVariants.{NoSuchNode, Unsure}
 use Rattle.numa_pools.proofs.Rows.{four, pools_with}
 
@@ -134,24 +134,53 @@ only-one = refl
 -- ---- numbers below nothing
 
 -- node 0 has one page and two surplus ones: whatever is written is unsure
-negative : node_refusal (pools_with (four 1 5 0 0) (four 0 5 0 0) (four 2 0 0 0) 0 0 0) 0 7
+negative : node_refusal 4 (pools_with (four 1 5 0 0) (four 0 5 0 0) (four 2 0 0 0) 0 0 0) 0 7
     ≡ Some Unsure
 negative = refl
 
 -- node 1's lasting pages are more than all, by node 0's one below none: so is whatever is written
-others-negative : node_refusal (pools_with (four 1 5 0 0) (four 0 5 0 0) (four 2 0 0 0) 0 0 0) 1 0
+others-negative : node_refusal 4 (pools_with (four 1 5 0 0) (four 0 5 0 0) (four 2 0 0 0) 0 0 0) 1 0
     ≡ Some Unsure
 others-negative = refl
 
-others-negative-still : node_refusal
+others-negative-still : node_refusal 4
     (pools_with (four 1 5 0 0) (four 0 5 0 0) (four 2 0 0 0) 0 0 0) 1 9
     ≡ Some Unsure
 others-negative-still = refl
 
-others-enough : node_refusal (pools_with (four 2 5 0 0) (four 0 5 0 0) (four 2 0 0 0) 0 0 0) 1 0
+others-enough : node_refusal 4 (pools_with (four 2 5 0 0) (four 0 5 0 0) (four 2 0 0 0) 0 0 0) 1 0
     ≡ None
 others-enough = refl
 
-no-such_node : node_refusal (pools_with (four 1 5 0 0) (four 0 5 0 0) (four 0 0 0 0) 0 0 0) 4 1
+no-such_node : node_refusal 4 (pools_with (four 1 5 0 0) (four 0 5 0 0) (four 0 0 0 0) 0 0 0) 4 1
     ≡ Some NoSuchNode
 no-such_node = refl
+
+-- ---- a node without memory: nodes 0, 1 and 3 have some, and `pool 2 1` comes before `pool 1`
+
+abbrev gap : PoolCounts
+gap = record {
+  memory = 11;
+  total = four 0 0 0 0;
+  free = four 0 0 0 0;
+  surplus = four 0 0 0 0;
+  reserved = 0;
+  grow = 0;
+  shrink = 0;
+}
+
+gap-accepts : node_refusal 4 gap 2 1 ≡ None
+gap-accepts = refl
+
+-- no page comes, but the next one in turn is behind the node
+abbrev gap_tried : PoolCounts
+gap_tried = record gap { grow = 2 }
+
+gap-tries : resized_node 2 11 1 gap ≡ gap_tried
+unfolding resized in_turn on ring turn
+gap-tries = refl
+
+gap-then : resized 11 11 1 gap_tried
+    ≡ record gap { total = four 0 0 0 1; free = four 0 0 0 1; grow = 3 }
+unfolding resized in_turn on ring turn
+gap-then = refl

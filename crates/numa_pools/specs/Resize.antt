@@ -1,7 +1,7 @@
 -- Pools that grow and shrink to a number of pages, in turn on some nodes.
-use Rattle.std.specs.Prelude.{ℕ, ◌+◌, ◌-◌, ◌||◌, Bool, List, if◌then◌else◌, map, max, min, nat_lt}
-use Rattle.std.specs.Prelude.{sum, Option, Some, None}
-use Rattle.numa_mask.specs.NodeSet.{has, with_node}
+use Rattle.std.specs.Prelude.{ℕ, ◌+◌, ◌-◌, ◌||◌, Bool, List, if◌then◌else◌, map, max, min, nat_le}
+use Rattle.std.specs.Prelude.{nat_lt, sum, Option, Some, None}
+use Rattle.numa_mask.specs.NodeSet.{with_node}
 use Rattle.numa_pools.specs.declared.refusal.PoolRefusal.{PoolRefusal}
 use Rattle.numa_pools.specs.declared.refusal.PoolRefusal.TheVariants.{NoSuchNode, Unsure}
 use Rattle.numa_pools.specs.declared.shares.Shares.{Shares}
@@ -86,12 +86,12 @@ is_unsure pools node = nat_lt (total_at pools node) (surplus_at pools node)
 abbrev pub goal_for : PoolCounts → ℕ → ℕ → ℕ
 goal_for pools node count = count + lasting pools - lasting_at pools node
 
--- why a node's pool isn't resized
-abbrev pub node_refusal : PoolCounts → ℕ → ℕ → Option PoolRefusal
-node_refusal pools node count =
-    if has pools.memory node
-    then if is_unsure pools node then Some Unsure else None
-    else Some NoSuchNode
+-- why a node's pool isn't resized, where the machine has so many nodes. A node without memory has
+-- a pool too: no page comes to it, and it takes its turns
+abbrev pub node_refusal : ℕ → PoolCounts → ℕ → ℕ → Option PoolRefusal
+node_refusal nodes pools node count =
+    if nat_le nodes node then Some NoSuchNode
+    else if is_unsure pools node then Some Unsure else None
 
 -- the pools after a node's lasting pages were to become as many
 abbrev pub resized_node : ℕ → ℕ → ℕ → PoolCounts → PoolCounts

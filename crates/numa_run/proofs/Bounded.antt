@@ -386,7 +386,7 @@ pub huge-keeps : (said : HugeLine) (lack : Lack) (machine : Hardware) (state : S
 huge-keeps huge.Pools lack machine state = refl
 huge-keeps (huge.Resize pages) lack machine state = refl
 huge-keeps (huge.ResizeNode node pages) lack machine state = resize-keeps
-    (node_refusal (pools_on machine state) node (min pages most_said)) machine node
+    (node_refusal machine.nodes (pools_on machine state) node (min pages most_said)) machine node
     (min pages most_said) (begun_on machine state)
 huge-keeps (huge.ResizeFor pages task cpu) lack machine state = either-keeps
     (nat_le machine.nodes cpu) state (refused_for because.BadCpu (begun_on machine state))

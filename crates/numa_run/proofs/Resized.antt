@@ -74,8 +74,19 @@ why-of result why told err = ap result_err (sym err) ∙ told
 
 module _ (old : Running) (kept : HugePages) (is : old.huge ≡ Some kept) (node pages : ℕ) where
   abbrev pub resizes : Lack → Hardware → State → Served
-  resizes lack machine state = resize_unless (node_refusal (pools_on machine state) node pages)
-      machine node pages state
+  resizes lack machine state = resize_unless
+      (node_refusal machine.nodes (pools_on machine state) node pages) machine node pages state
+
+  abbrev pub refusal_kept : Option PoolRefusal
+  refusal_kept = node_refusal old.core.space.machine.nodes kept.places.pools node pages
+
+  -- what a call tells that was asked for a machine of so many nodes
+  pub told-kept : (nodes : ℕ) → nodes ≡ old.core.space.machine.nodes
+      → (result : Result (Unit {0}) PoolRefusal)
+      → result_err result ≡ node_refusal nodes kept.places.pools node pages
+      → result_err result ≡ refusal_kept
+  told-kept nodes same result told =
+      told ∙ ap (λ (n : ℕ). node_refusal n kept.places.pools node pages) same
 
   same-pools : (state : State) → RunsAs old state
       → pools_on old.core.space.machine state ≡ kept.places.pools
@@ -83,17 +94,18 @@ module _ (old : Running) (kept : HugePages) (is : old.huge ≡ Some kept) (node 
       ap (λ (p : HugeLying). p.pools) (sym (kept-memory old kept is state stands).pages)
 
   by-refusal : (state : State) → RunsAs old state → (why : Option PoolRefusal)
-      → why ≡ node_refusal kept.places.pools node pages
+      → why ≡ refusal_kept
       → resizes Enough old.core.space.machine state
       ≡ resize_unless why old.core.space.machine node pages state
   by-refusal state stands why refusal =
       ap (λ (o : Option PoolRefusal).
       resize_unless o old.core.space.machine node pages state)
-      (ap (λ (p : PoolCounts). node_refusal p node pages) (same-pools state stands)
+      (ap (λ (p : PoolCounts). node_refusal old.core.space.machine.nodes p node pages)
+      (same-pools state stands)
       ∙ sym refusal)
 
   pub node-refused : (kept_then : HugePages) → kept_then ≡ kept → (why : PoolRefusal)
-      → Some why ≡ node_refusal kept.places.pools node pages
+      → Some why ≡ refusal_kept
       → Serves old (reply.HugeRefused (pool_refusal why)) (record old { huge = Some kept_then })
       resizes
   node-refused kept_then same why refusal = λ state stands.
@@ -103,7 +115,7 @@ module _ (old : Running) (kept : HugePages) (is : old.huge ≡ Some kept) (node 
       (is ∙ ap Some (sym same)) stands)
 
   pub node-resized : (kept_then : HugePages) (allowed : ℕ) → allowed ≡ old.core.space.allowed
-      → None ≡ node_refusal kept.places.pools node pages
+      → None ≡ refusal_kept
       → kept_then ≡ record kept { places = kept_then.places }
       → kept_then.places.pools ≡ resized_node node allowed pages kept.places.pools
       → kept_then.places.runs ≡ kept.places.runs

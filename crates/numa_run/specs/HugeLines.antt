@@ -189,7 +189,7 @@ begun_outcome lack machine state huge.Pools = pools_shown machine state
 begun_outcome lack machine state (huge.Resize pages) =
     resize_outcome machine machine.memory pages state
 begun_outcome lack machine state (huge.ResizeNode node pages) = resize_unless
-    (node_refusal (pools_on machine state) node (min pages most_said)) machine node
+    (node_refusal machine.nodes (pools_on machine state) node (min pages most_said)) machine node
     (min pages most_said) state
 begun_outcome lack machine state (huge.ResizeFor pages task cpu) =
     resize_for_outcome machine pages task cpu state

@@ -61,19 +61,21 @@ fn resize_kept(kept: &mut HugePages, nodes: &NodeMask, allowed: &NodeMask, pages
 /// As [`Pools::resize_node`](numa_pools::Pools::resize_node). Then nothing has changed.
 fn resize_node_kept(
     kept: &mut HugePages,
+    nodes: u32,
     node: u32,
     allowed: &NodeMask,
     pages: u64,
 ) -> Result<(), PoolRefusal>
-    requires { pages < 2 ^ 63 }
+    requires nodes { nodes ≤ 256 }
+    requires pages { pages < 2 ^ 63 }
     ensures rest { kept.new ≡ record kept.old { places = kept.new.places } }
-    ensures refusal { result_err result ≡ node_refusal kept.old.places.pools node pages }
+    ensures refusal { result_err result ≡ node_refusal nodes kept.old.places.pools node pages }
     ensures resized { OnOk result (kept.new.places.pools
         ≡ resized_node node allowed.now pages kept.old.places.pools) }
     ensures unchanged { OnErr result (kept.new ≡ kept.old) }
     ensures runs { kept.new.places.runs ≡ kept.old.places.runs }
 {
-    resize_node(&mut kept.places, node, allowed, pages)
+    resize_node(&mut kept.places, nodes, node, allowed, pages)
 }
 
 /// A mapping found too few pages.
@@ -143,13 +145,16 @@ impl Running {
         requires kept { is_some self.old.huge ≡ true }
         requires pages { pages < 2 ^ 63 }
         ensures { ComesTo self.old result self.new (λ lack machine state. resize_unless
-            (node_refusal (pools_on machine state) node pages) machine node pages state) }
+            (node_refusal machine.nodes (pools_on machine state) node pages) machine node pages
+            state) }
     {
-        let allowed = self.core.space().allowed();
+        let space = self.core.space();
+        let nodes = space.machine().nodes();
+        let allowed = space.allowed();
         let Some(kept) = &mut self.huge else {
             unreachable!()
         };
-        match resize_node_kept(kept, node, &allowed, pages) {
+        match resize_node_kept(kept, nodes, node, &allowed, pages) {
             Ok(()) => Taken::Pools,
             Err(why) => Taken::Reply(Reply::HugeRefused(pool_refusal(why))),
         }

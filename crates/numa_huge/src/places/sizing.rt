@@ -18,25 +18,26 @@ impl HugePlaces {
         self.pools.resize(nodes, allowed, count);
     }
 
-    /// Makes a node have `count` lasting pages.
+    /// Makes a node of a machine of `nodes` nodes have `count` lasting pages.
     ///
     /// # Errors
     /// As [`Pools::resize_node`](numa_pools::Pools::resize_node). Then nothing has changed.
     pub fn resize_node(
         &mut self,
+        nodes: u32,
         node: NodeId,
         allowed: &NodeMask,
         count: u64,
     ) -> Result<(), PoolRefusal>
         requires { count < 2 ^ 63 }
-        ensures refusal { result_err result ≡ node_refusal self.old.pools node count }
+        ensures refusal { result_err result ≡ node_refusal nodes self.old.pools node count }
         ensures resized { OnOk result
             (self.new.pools ≡ resized_node node allowed.now count self.old.pools) }
         ensures unchanged { OnErr result (self.new ≡ self.old) }
         ensures runs { self.new.runs ≡ self.old.runs }
     {
         self.pools.keep();
-        self.pools.resize_node(node, allowed, count)
+        self.pools.resize_node(nodes, node, allowed, count)
     }
 
     /// What a mapping leaves that is refused for lack of pages.

@@ -48,15 +48,16 @@ impl Pages {
     /// own nr_hugepages does. From 2^63 on it is 2^63 - 1.
     ///
     /// # Errors
-    /// Nothing has changed: `NoSuchNode`, the machine lacks the node, or it has no memory;
-    /// `Unsure`, the node or the others together have more surplus pages than pages, where Linux
+    /// Nothing has changed: `NoSuchNode`, the machine lacks the node; `Unsure`, the node or the others together have more surplus pages than pages, where Linux
     /// takes all the node's memory.
     pub fn resize_node(&mut self, node: u32, pages: u64) -> Result<(), HugeRefusal>
         ensures { ResizesNode node pages self.old result self.new }
     {
-        let allowed = self.core.space().allowed();
+        let space = self.core.space();
+        let nodes = space.machine().nodes();
+        let allowed = space.allowed();
         let said = pages.min(MOST_PAGES);
-        match resize_node(&mut self.huge, node, &allowed, said) {
+        match resize_node(&mut self.huge, nodes, node, &allowed, said) {
             Ok(()) => Ok(()),
             Err(why) => Err(pool_refusal(why)),
         }

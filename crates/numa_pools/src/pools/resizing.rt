@@ -72,13 +72,14 @@ impl Pools {
         self.call_surplus(nodes, count);
     }
 
-    /// The goal of all nodes' lasting pages, where a node is to have `count`.
-    fn goal_for(&self, node: u8, count: u64) -> Result<u64, PoolRefusal>
+    /// The goal of all nodes' lasting pages, where a node is to have `count` on a machine of `nodes`
+    /// nodes.
+    fn goal_for(&self, nodes: u32, node: u8, count: u64) -> Result<u64, PoolRefusal>
         requires { count < 2 ^ 63 }
-        ensures refusal { result_err result ≡ node_refusal self.now node count }
+        ensures refusal { result_err result ≡ node_refusal nodes self.now node count }
         ensures goal { IfOk result (λ goal. goal ≡ goal_for self.now node count) }
     {
-        if !self.memory.has(node) {
+        if u32::from(node) >= nodes {
             return Err(PoolRefusal::NoSuchNode);
         }
         let total = self.total[node as usize];
@@ -90,26 +91,28 @@ impl Pools {
         Ok(count + lasting - (total - surplus))
     }
 
-    /// Makes a node have `count` lasting pages, as a write to its own nr_hugepages.
+    /// Makes a node have `count` lasting pages, as a write to its own nr_hugepages, on a machine of
+    /// `nodes` nodes. To a node without memory no page comes, but it has its turn.
     ///
     /// # Errors
-    /// The first of these that applies: `NoSuchNode`, the node has no memory, or the machine lacks
-    /// it; `Unsure`, Linux 6.12 would subtract more pages than there are. Then nothing has changed.
+    /// The first of these that applies: `NoSuchNode`, the machine lacks the node; `Unsure`, Linux
+    /// 6.12 would subtract more pages than there are. Then nothing has changed.
     pub fn resize_node(
         &mut self,
+        nodes: u32,
         node: NodeId,
         allowed: &NodeMask,
         count: u64,
     ) -> Result<(), PoolRefusal>
         requires { count < 2 ^ 63 }
-        ensures refusal { result_err result ≡ node_refusal self.old node count }
+        ensures refusal { result_err result ≡ node_refusal nodes self.old node count }
         ensures resized { OnOk result (self.new ≡ resized_node node allowed.now count self.old) }
         ensures unchanged { OnErr result (self.new ≡ self.old) }
     {
-        let goal = self.goal_for(node.number(), count)?;
-        let mut nodes = NodeMask::empty();
-        nodes.insert(node);
-        self.resize(&nodes, allowed, goal);
+        let goal = self.goal_for(nodes, node.number(), count)?;
+        let mut alone = NodeMask::empty();
+        alone.insert(node);
+        self.resize(&alone, allowed, goal);
         Ok(())
     }
 }

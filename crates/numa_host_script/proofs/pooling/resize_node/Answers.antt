@@ -1,6 +1,6 @@
-use Rattle.std.proofs.Common.{◌<◌, ◌^◌, ◌∙◌, ℕ, ap, arith, subst, sym}
+use Rattle.std.proofs.Common.{◌∙◌, ℕ, ap, subst, sym}
 use Rattle.std.specs.Prelude.{min}
-use Rattle.numa_pools.specs.Pools.{PoolCounts}
+use Rattle.numa_machine.specs.Machine.{Hardware}
 use Rattle.numa_pools.specs.Resize.{resized_node}
 use Rattle.numa_page_state.proofs.Nodes.{some-same}
 use Rattle.numa_run.specs.HugeLines.{most_said}
@@ -10,18 +10,19 @@ use Rattle.numa_host_script.proofs.Resizes.{node-free, node-none, node-refused, 
 use Rattle.numa_host_script.proofs.Resizes.{node-why}
 use Rattle.numa_host_script.proofs.pooling.resize_node.Goals as goal
 
-pub returns-then-node-gt255 : goal.returns-then-node-gt255
-returns-then-node-gt255 c =
-    node-none c.args.running.now c.args.node c.args.allowed.now c.args.pages
-    (subst (λ n. n < 2 ^ 256) (c.memory.ensures ∙ ap (λ (p : PoolCounts). p.memory)
-    c.pools.ensures) c.weight.ensures.within) (omega (arith, c.if-node-gt255.true))
+pub returns-then-node-nodes : goal.returns-then-node-nodes
+returns-then-node-nodes c =
+    node-none c.args.running.now c.nodes.result c.args.node c.args.allowed.now c.args.pages
+    (c.nodes.ensures.nodes ∙ ap (λ (m : Hardware). m.nodes) c.machine.ensures)
+    c.if-node-nodes.true
 
 pub returns-in-Ok : goal.returns-in-Ok
 returns-in-Ok c =
     let node = some-same c.in-Some.node c.args.node (sym c.in-Some.is ∙ c.new.ensures) in
     node-resized c.args.running.now c.args.node c.args.allowed.now c.args.pages
     c.resize_node.new.self
-    (node-free c.args.running.now c.args.node c.args.pages c.in-Some.node c.min.result node
+    (node-free c.args.running.now c.args.node c.args.pages c.nodes.result c.in-Some.node
+    c.min.result (c.nodes.ensures.nodes ∙ ap (λ (m : Hardware). m.nodes) c.machine.ensures) node
     c.min.ensures c.resize_node.result c.resize_node.ensures.refusal c.in-Ok.is)
     (λ at lies. subst (λ (n : ℕ). HugeLies c.resize_node.new.self (with_pools
     (resized_node n c.args.allowed.now (min c.args.pages most_said) at.pools) at)) node
@@ -34,6 +35,7 @@ returns-in-Err c =
     rw c.pool_refusal.ensures
     (node-refused c.args.running.now c.args.node c.args.allowed.now c.args.pages
     c.resize_node.new.self (rw c.in-Err.is at c.resize_node.ensures.unchanged) c.in-Err.why
-    (node-why c.args.running.now c.args.node c.args.pages c.in-Some.node c.min.result
+    (node-why c.args.running.now c.args.node c.args.pages c.nodes.result c.in-Some.node
+    c.min.result (c.nodes.ensures.nodes ∙ ap (λ (m : Hardware). m.nodes) c.machine.ensures)
     (some-same c.in-Some.node c.args.node (sym c.in-Some.is ∙ c.new.ensures)) c.min.ensures
     c.resize_node.result c.resize_node.ensures.refusal c.in-Err.why c.in-Err.is))

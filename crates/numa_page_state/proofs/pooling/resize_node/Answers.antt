@@ -1,20 +1,17 @@
-use Rattle.std.proofs.Common.{◌≡◌, ℕ, ◌<◌, ◌^◌, ap, sym, subst, ◌∙◌, arith}
+use Rattle.std.proofs.Common.{◌≡◌, ℕ, ap, sym, subst, ◌∙◌}
 use Rattle.std.specs.Prelude.{OnOk}
-use Rattle.numa_pools.specs.Pools.{PoolCounts}
 use Rattle.numa_pools.specs.Resize.{node_refusal, resized_node}
 use Rattle.numa_page_state.proofs.Nodes.{none-above, some-same}
 use Rattle.numa_page_state.proofs.pooling.resize_node.Goals as goal
 
-pub returns-then-node-gt255-clause-refusal : goal.returns-then-node-gt255-clause-refusal
-returns-then-node-gt255-clause-refusal c =
-    none-above c.args.places.now.pools c.args.node c.args.pages
-    (subst (λ n. n < 2 ^ 256) (c.memory.ensures ∙ ap (λ (p : PoolCounts). p.memory)
-    c.pools.ensures) c.weight.ensures.within) (omega (arith, c.if-node-gt255.true))
+pub returns-then-node-nodes-clause-refusal : goal.returns-then-node-nodes-clause-refusal
+returns-then-node-nodes-clause-refusal c =
+    none-above c.args.places.now.pools c.args.nodes c.args.node c.args.pages c.if-node-nodes.true
 
 pub returns-clause-refusal : goal.returns-clause-refusal
 returns-clause-refusal c =
-    c.resize_node.ensures.refusal ∙ ap (λ (n : ℕ). node_refusal c.args.places.now.pools n
-    c.args.pages) (some-same c.in-Some.node c.args.node (sym c.in-Some.is ∙ c.new.ensures))
+    c.resize_node.ensures.refusal ∙ ap (λ (n : ℕ). node_refusal c.args.nodes c.args.places.now.pools
+    n c.args.pages) (some-same c.in-Some.node c.args.node (sym c.in-Some.is ∙ c.new.ensures))
 
 pub returns-clause-resized : goal.returns-clause-resized
 returns-clause-resized c =

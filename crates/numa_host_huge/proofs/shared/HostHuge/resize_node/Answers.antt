@@ -18,7 +18,8 @@ invariant_of-self c = (
 pub returns-clause-refusal : goal.returns-clause-refusal
 returns-clause-refusal c =
     c.resize_node.ensures.refusal
-    ∙ ap (λ (k : HugeKept). node_refusal k.pools c.args.node c.args.count) c.self.view_is
+    ∙ ap (λ (k : HugeKept). node_refusal c.args.nodes k.pools c.args.node c.args.count)
+    c.self.view_is
 
 pub returns-clause-resized : goal.returns-clause-resized
 returns-clause-resized c = λ at lies.

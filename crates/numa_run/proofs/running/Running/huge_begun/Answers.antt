@@ -39,7 +39,7 @@ pub returns-in-ResizeNode : goal.returns-in-ResizeNode
 returns-in-ResizeNode c =
     rw c.in-ResizeNode.is
     (subst (λ (n : ℕ). ComesTo c.args.self.now c.resize_node.result c.resize_node.new.self
-    (λ lack machine state. resize_unless (node_refusal (pools_on machine state)
+    (λ lack machine state. resize_unless (node_refusal machine.nodes (pools_on machine state)
     c.in-ResizeNode.node n) machine c.in-ResizeNode.node n state)) c.min.ensures
     c.resize_node.ensures)
 
