@@ -160,7 +160,7 @@ enum np_answer {
     NP_SPAN_UNMAPPED = 109,      /* ENOMEM: a page of the span that is touched isn't mapped */
 
     /* of pages of 2 MiB, their pools, or the first touch of one page */
-    NP_NO_SUCH_POOL = 110,  /* ENOENT: the machine lacks the node, or it has no memory */
+    NP_NO_SUCH_POOL = 110,  /* ENOENT: the machine lacks the node */
     NP_UNSURE = 111,        /* Linux takes all the node's memory where its pool is resized so */
     NP_NO_HUGE_PAGES = 112, /* ENOMEM: a mapping finds too few free pages that aren't reserved */
     NP_NODES_FULL = 113,    /* no node of the page's list has room for it */

@@ -414,9 +414,7 @@ class SpanUnmapped(Refused, LookupError):
 
 
 class NoSuchPool(Refused, LookupError):
-    number = 110
-    words = ("the machine lacks the node, or it has no memory, and so no pool; its nodes are numbered"
-             " from 0")
+    number, words = 110, "the machine lacks the node, and so its pool; its nodes are numbered from 0"
 
 
 class Unsure(Refused, OSError):

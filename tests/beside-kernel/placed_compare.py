@@ -251,8 +251,7 @@ def main():
         machine, _, seen = read_seen(path)
         scripts += len(seen)
         for script in seen:
-            with pool_lines.kernels_way(machine, counts):
-                compare(machine, script, counts)
+            compare(machine, script, counts)
             if program:
                 compare_program(program, known, machine, script, counts)
     for row, what in ROWS.items():

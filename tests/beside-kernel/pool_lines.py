@@ -1,8 +1,7 @@
 """What compares pages of 2 MiB and their pools on a kernel with the model's: what is told of them, and lines
-that kernels, or 6.1 alone, take otherwise. Not proved."""
+that 6.1 takes otherwise. Not proved."""
 
 import collections
-import contextlib
 import os
 import sys
 
@@ -10,46 +9,11 @@ sys.path.append(os.path.dirname(os.path.abspath(__file__)) + "/../model")
 
 import huge
 from compare import HUGE
-from machines import machine_named
 
 ROWS = {
-    "many": "pages of 2 MiB moved by mbind of many, to a node that it names and that has no free page",
-    "own": "pages of 2 MiB moved by mbind to a free one of their own node, where surplus pages end",
-    "without": "pool NODE COUNT of a node without memory",
     "others": "pool NODE COUNT, to which the surplus pages of other nodes were added (6.1)",
     "inside": "move of a page of 2 MiB by an address behind its first 4 KiB (6.1)",
 }
-
-
-
-@contextlib.contextmanager
-def kernels_way(machine, counts):
-    """Has the model do what kernels do where docs/KERNEL.md says that they do otherwise, and counts that."""
-    plain_aim, plain_resize_node = huge.aim_of, huge.resize_node
-
-    def aim_of(state, page, record, nodes):
-        pools = state.huge.pools
-        named = [node for node in nodes if record and record.mode == "many" and node in record.nodes]
-        aim = plain_aim(state, page, record, named or nodes)
-        counts["many"] += aim != plain_aim(state, page, record, nodes)
-        if aim == state.huge.spots[page] and pools.spare() > 0 and pools.free[aim] and pools.surplus[aim]:
-            counts["own"] += 1
-            pools.free[aim] -= 1
-            huge.free_page(pools, aim)
-        return aim
-
-    def resize_node(pools, node, count, allowed):
-        if node in pools.memory or node >= machine_named(machine).nodes:
-            return plain_resize_node(pools, node, count, allowed)
-        counts["without"] += 1
-        return huge.resize(pools, {node}, allowed, count + pools.lasting())
-
-    huge.aim_of, huge.resize_node = aim_of, resize_node
-    try:
-        yield
-    finally:
-        huge.aim_of, huge.resize_node = plain_aim, plain_resize_node
-
 
 # what pools.h tells
 TOLD = ("there", "pool")

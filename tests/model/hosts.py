@@ -343,7 +343,9 @@ def pool(host, name, arguments):
         return "bad state"
     if name == "pool count":
         huge.resize(host.pools, memory, memory, *arguments)
-    cause = huge.resize_node(host.pools, *arguments, memory) if name == "pool node" else None
+    cause = None
+    if name == "pool node":
+        cause = huge.resize_node(host.pools, host.machine.nodes, *arguments, memory)
     return cause or host.pools.text()
 
 
@@ -353,7 +355,7 @@ def pool_in(host, its, name, arguments):
     if name == "pool count":
         huge.resize(host.pools, set(host.pools.memory), allowed, *arguments)
     elif name == "pool node":
-        cause = huge.resize_node(host.pools, *arguments, allowed)
+        cause = huge.resize_node(host.pools, host.machine.nodes, *arguments, allowed)
     else:
         cause = huge.resize_for(host.pools, its.space, *arguments)
     return cause or host.pools.text()

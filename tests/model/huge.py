@@ -168,12 +168,13 @@ def pool_count(state, count):
 
 def pool_node(state, node, count):
     """`pool NODE COUNT`: a write to a node's nr_hugepages."""
-    return resize_node(huge_of(state).pools, node, count, state.space.allowed) or pool(state)
+    pools, machine = huge_of(state).pools, state.space.machine
+    return resize_node(pools, machine.nodes, node, count, state.space.allowed) or pool(state)
 
 
-def resize_node(pools, node, count, allowed):
-    """The same, of pools: a refusal, or none."""
-    if node not in pools.memory:
+def resize_node(pools, nodes, node, count, allowed):
+    """The same, of the pools of so many nodes: a refusal, or none. To a node without memory no page comes."""
+    if node >= nodes:
         return "refused NoSuchNode ENOENT"
     own = pools.total[node] - pools.surplus[node]
     if own < 0 or pools.lasting() < own:
@@ -454,11 +455,21 @@ def bind_strictly(state, start, length, asked):
     return placed.bind_strictly(state, start, length, asked)
 
 
-def aim_of(state, _page, _record, nodes):
-    """Where a page goes of its list: to the first node with a free page, if one is spare; else to the first."""
+def aim_of(state, record, nodes):
+    """Where a page goes of its list, of which `many` asks its own nodes alone: to the first with a free
+    page, if one is spare; else to the first. None if there is none."""
     pools = state.huge.pools
+    if record is not None and record.mode == "many":
+        nodes = [node for node in nodes if node in record.nodes]
     spare = [node for node in nodes if pools.free[node]] if pools.spare() > 0 else []
-    return (spare or nodes)[0]
+    return next(iter(spare or nodes), None)
+
+
+def renew_page(pools, node):
+    """On its own node a free page takes the place of a page, which becomes free, or ends."""
+    if pools.spare() > 0 and pools.free[node]:
+        pools.free[node] -= 1
+        free_page(pools, node)
 
 
 def bind_and_move(state, start, length, asked, task, cpu, is_strict=False):
@@ -470,12 +481,13 @@ def bind_and_move(state, start, length, asked, task, cpu, is_strict=False):
     for page in astray(state, start, length, asked):
         nodes = placed.nodes_for(state.space, task, page * HUGE, cpu)
         lies = state.huge.spots[page]
-        if not nodes:
-            left += 1
-            continue
         record = resolved(state.space, task, piece_at(state.space, page * HUGE))
-        aim = aim_of(state, page, record, nodes)
-        if aim != lies:
+        aim = aim_of(state, record, nodes)
+        if aim is None:
+            left += 1
+        elif aim == lies:
+            renew_page(state.huge.pools, lies)
+        else:
             send(state, page, aim)
             flows[lies, aim] += 1
     tell(state, flows, left)

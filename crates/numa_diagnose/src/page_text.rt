@@ -131,7 +131,7 @@ pub(crate) fn put_move_refused(text: &mut Text, refusal: MoveRefusal, detail: De
 /// Why a line about pages of 2 MiB, or about a first touch, is refused.
 fn huge_words(refusal: HugeRefusal) -> &'static str {
     match refusal {
-        HugeRefusal::NoSuchNode => "the machine lacks the node, or the node has no memory",
+        HugeRefusal::NoSuchNode => "the machine lacks the node",
         HugeRefusal::BadCpu => "the machine lacks the node of CPU",
         HugeRefusal::Unsure => {
             "the node, or the others together, have more surplus pages than pages, and a kernel \

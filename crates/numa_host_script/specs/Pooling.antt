@@ -72,7 +72,8 @@ resize_unless None node allowed pages at =
 
 abbrev pub resize_node_outcome : ℕ → ℕ → ℕ → Hosting → Outcome
 resize_node_outcome node allowed pages at = resize_unless
-    (node_refusal at.machine.nodes (pools_at at) node (min pages most_said)) node allowed (min pages most_said) at
+    (node_refusal at.machine.nodes (pools_at at) node (min pages most_said)) node allowed
+    (min pages most_said) at
 
 -- the nodes of the policy of a task of a process
 abbrev pub resize_for_outcome : ℕ → ℕ → ℕ → Hosting → ℕ → Outcome

@@ -159,7 +159,7 @@ free-page-serves = refl
 no-free-page : goal on_0.pools (2 ∷ 3 ∷ []) ≡ Some 2
 no-free-page = refl
 
--- `many`: a free page of a node that it doesn't name serves nobody who moves. Here node 0 has a free
+-- `many`: a free page of a node that it doesn't name serves none that moves. Here node 0 has a free
 -- page, and node 1, which the policy names, none: the page goes to node 1, and its place with it
 -- (`mbind .. many:1 move`)
 abbrev preferring : ℕ → PolicyRecord
@@ -189,8 +189,8 @@ named-none = refl
 named-all : named_by None (1 ∷ 0 ∷ []) ≡ 1 ∷ 0 ∷ []
 named-all = refl
 
--- ---- `mbind .. local move` of a page on node 0: there a free page takes its place, and the old one
--- ends, since the node has surplus (`pool 0 2`, two pages used, `pool 0 1`, one of them unmapped)
+-- ---- `mbind .. local move` of a page on node 0: there a free page takes its place, and the old
+-- one ends, since the node has surplus
 
 abbrev one_on : ℕ → Option HugeSpot
 one_on zero = Some (On 0)

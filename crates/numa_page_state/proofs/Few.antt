@@ -19,9 +19,10 @@ use Rattle.numa_huge.specs.Moves.{sent_page, sent_pages, sent_where, touch_from,
 use Rattle.numa_huge.specs.Moves.{touched_pages, walk_from, with_given}
 use Rattle.numa_huge.specs.declared.spot.HugeSpot.{HugeSpot}
 use Rattle.numa_huge.specs.declared.spot.HugeSpot.TheVariants.{Bare, Reserved, On}
-use Rattle.numa_page_state.specs.Huge.{huge_count, huge_end, huge_first, huge_walk, touch_walk}
+use Rattle.numa_page_state.specs.Huge.{huge_count, huge_end, huge_first, huge_walk, named_of}
+use Rattle.numa_page_state.specs.Huge.{touch_walk}
 use Rattle.numa_page_state.specs.Lying.{Ground, Lying, Process, motion}
-use Rattle.numa_page_state.specs.Sending.{command_of, goals_in, had_to_go, nodes_of, sent_in}
+use Rattle.numa_page_state.specs.Sending.{command_of, goals_in, had_to_go, sent_in}
 use Rattle.numa_page_state.specs.Sending.{sent_spots}
 use Rattle.numa_page_state.specs.Touching.{arrival_of}
 use Rattle.numa_page_state.specs.declared.sending.Rebinding.{Rebinding}
@@ -144,7 +145,7 @@ pub walk-few : (process : Process) (said : Rebinding) (toucher : Toucher) (memor
     → ((huge_walk process said toucher memory).told.moved ≤ 67108864)
     × ((huge_walk process said toucher memory).told.left ≤ 67108864)
 walk-few process said toucher memory =
-    let all = pages-few said.spec.mask (λ page. nodes_of process.machine
+    let all = pages-few said.spec.mask (λ page. named_of process.machine
     (command_of said ∷ process.history) toucher (page * 512)) (huge_first (page_of said.start))
     (huge_count (page_of said.start) (page_count said.length)) (walk_from memory.pages) in
     let few = count-few (page_of said.start) (page_count said.length) in

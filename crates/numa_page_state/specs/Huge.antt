@@ -10,6 +10,7 @@ use Rattle.numa_mode.specs.declared.modes.Mode.{Mode}
 use Rattle.numa_mode.specs.declared.modes.Mode.TheVariants.{Bind}
 use Rattle.numa_ranges.specs.Maps.{any_page}
 use Rattle.numa_ranges.specs.Runs.{in_pages}
+use Rattle.numa_requests.specs.declared.command.Command.{Command}
 use Rattle.numa_requests.specs.declared.page_refusal.MoveRefusal.{MoveRefusal}
 use Rattle.numa_requests.specs.declared.page_refusal.MoveRefusal.TheVariants as move
 use Rattle.numa_requests.specs.declared.page_refusal.PlacedRefusal.{PlacedRefusal}

@@ -181,6 +181,6 @@ unfolding resized in_turn on ring turn
 gap-tries = refl
 
 gap-then : resized 11 11 1 gap_tried
-    ≡ record gap { total = four 0 0 0 1; free = four 0 0 0 1; grow = 3 }
+    ≡ record gap { total = four 0 0 0 1; free = four 0 0 0 1; grow = 0 }
 unfolding resized in_turn on ring turn
 gap-then = refl

@@ -91,7 +91,7 @@ impl MoveRefusal {
 /// which end where a mapping is refused that had reserved some.
 #[derive(Clone, Copy, Debug, PartialEq, Eq)]
 pub enum HugeRefusal {
-    /// The machine lacks the node, or the node has no memory.
+    /// The machine lacks the node.
     NoSuchNode,
     /// The machine has no node by this number, on a CPU of which the task should run.
     BadCpu,

@@ -114,8 +114,7 @@ late_words =
     named 107 (codes "the page lies somewhere already; unmap it first") ∷
     named 108 (codes "the machine lacks the node of the task's CPU; its nodes are numbered from 0") ∷
     named 109 (codes "a page of the span isn't mapped; map it first, or touch each mapped part") ∷
-    named 110 (codes "the machine lacks the node, or it has no memory, and so no pool; its nodes "
-    ++ codes "are numbered from 0") ∷
+    named 110 (codes "the machine lacks the node, and so its pool; its nodes are numbered from 0") ∷
     named 111 (codes "the node or the others together have more surplus pages than pages, where "
     ++ codes "Linux takes all the node's memory; let surplus pages end first") ∷
     named 112 (codes "too few pages of 2 MiB are free and not reserved, or too few on the nodes "

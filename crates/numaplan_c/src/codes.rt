@@ -109,7 +109,7 @@ pub(crate) enum Code {
     NoSuchCpu = 108,
     /// A page of a span that a task should touch isn't mapped.
     SpanUnmapped = 109,
-    /// The machine lacks the node whose pool is meant, or it has no memory.
+    /// The machine lacks the node whose pool is meant.
     NoSuchPool = 110,
     /// Linux takes all the node's memory where its pool is resized so.
     Unsure = 111,

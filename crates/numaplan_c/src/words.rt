@@ -318,8 +318,7 @@ static LATE_WORDS: [(u32, &[u8]); 24] = [
     ),
     (
         110,
-        b"the machine lacks the node, or it has no memory, and so no pool; its nodes are \
-          numbered from 0",
+        b"the machine lacks the node, and so its pool; its nodes are numbered from 0",
     ),
     (
         111,

@@ -171,7 +171,7 @@ causes! {
     109 SPAN_UNMAPPED "SpanUnmapped"
         "a page of the span isn't mapped; map it first, or touch each mapped part";
     110 NO_SUCH_POOL "NoSuchPool"
-        "the machine lacks the node, or it has no memory, and so no pool; its nodes are numbered from 0";
+        "the machine lacks the node, and so its pool; its nodes are numbered from 0";
     111 UNSURE "Unsure"
         "the node or the others together have more surplus pages than pages, where Linux takes all the node's memory; let surplus pages end first";
     112 NO_HUGE_PAGES "NoHugePages"

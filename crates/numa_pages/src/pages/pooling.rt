@@ -48,8 +48,8 @@ impl Pages {
     /// own nr_hugepages does. From 2^63 on it is 2^63 - 1.
     ///
     /// # Errors
-    /// Nothing has changed: `NoSuchNode`, the machine lacks the node; `Unsure`, the node or the others together have more surplus pages than pages, where Linux
-    /// takes all the node's memory.
+    /// Nothing has changed: `NoSuchNode`, the machine lacks the node; `Unsure`, the node or the
+    /// others together have more surplus pages than pages, where Linux takes all the node's memory.
     pub fn resize_node(&mut self, node: u32, pages: u64) -> Result<(), HugeRefusal>
         ensures { ResizesNode node pages self.old result self.new }
     {

@@ -72,8 +72,8 @@ impl Pools {
         self.call_surplus(nodes, count);
     }
 
-    /// The goal of all nodes' lasting pages, where a node is to have `count` on a machine of `nodes`
-    /// nodes.
+    /// The goal of all nodes' lasting pages, where a node is to have `count`; the machine has
+    /// `nodes` nodes.
     fn goal_for(&self, nodes: u32, node: u8, count: u64) -> Result<u64, PoolRefusal>
         requires { count < 2 ^ 63 }
         ensures refusal { result_err result ≡ node_refusal nodes self.now node count }

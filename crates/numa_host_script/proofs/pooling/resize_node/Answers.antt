@@ -12,8 +12,8 @@ use Rattle.numa_host_script.proofs.pooling.resize_node.Goals as goal
 
 pub returns-then-node-nodes : goal.returns-then-node-nodes
 returns-then-node-nodes c =
-    node-none c.args.running.now c.nodes.result c.args.node c.args.allowed.now c.args.pages
-    (c.nodes.ensures.nodes ∙ ap (λ (m : Hardware). m.nodes) c.machine.ensures)
+    node-none c.args.running.now c.nodes-nodes.result c.args.node c.args.allowed.now c.args.pages
+    (c.nodes-nodes.ensures.nodes ∙ ap (λ (m : Hardware). m.nodes) c.machine.ensures)
     c.if-node-nodes.true
 
 pub returns-in-Ok : goal.returns-in-Ok
@@ -21,8 +21,9 @@ returns-in-Ok c =
     let node = some-same c.in-Some.node c.args.node (sym c.in-Some.is ∙ c.new.ensures) in
     node-resized c.args.running.now c.args.node c.args.allowed.now c.args.pages
     c.resize_node.new.self
-    (node-free c.args.running.now c.args.node c.args.pages c.nodes.result c.in-Some.node
-    c.min.result (c.nodes.ensures.nodes ∙ ap (λ (m : Hardware). m.nodes) c.machine.ensures) node
+    (node-free c.args.running.now c.args.node c.args.pages c.nodes-nodes.result c.in-Some.node
+    c.min.result
+    (c.nodes-nodes.ensures.nodes ∙ ap (λ (m : Hardware). m.nodes) c.machine.ensures) node
     c.min.ensures c.resize_node.result c.resize_node.ensures.refusal c.in-Ok.is)
     (λ at lies. subst (λ (n : ℕ). HugeLies c.resize_node.new.self (with_pools
     (resized_node n c.args.allowed.now (min c.args.pages most_said) at.pools) at)) node
@@ -35,7 +36,8 @@ returns-in-Err c =
     rw c.pool_refusal.ensures
     (node-refused c.args.running.now c.args.node c.args.allowed.now c.args.pages
     c.resize_node.new.self (rw c.in-Err.is at c.resize_node.ensures.unchanged) c.in-Err.why
-    (node-why c.args.running.now c.args.node c.args.pages c.nodes.result c.in-Some.node
-    c.min.result (c.nodes.ensures.nodes ∙ ap (λ (m : Hardware). m.nodes) c.machine.ensures)
+    (node-why c.args.running.now c.args.node c.args.pages c.nodes-nodes.result c.in-Some.node
+    c.min.result
+    (c.nodes-nodes.ensures.nodes ∙ ap (λ (m : Hardware). m.nodes) c.machine.ensures)
     (some-same c.in-Some.node c.args.node (sym c.in-Some.is ∙ c.new.ensures)) c.min.ensures
     c.resize_node.result c.resize_node.ensures.refusal c.in-Err.why c.in-Err.is))
