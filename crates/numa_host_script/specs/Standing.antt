@@ -1,6 +1,7 @@
 -- Which states a running script of a host stands for, and what it does with lines.
-use Rattle.std.specs.Prelude.{◌≡◌, ℕ, Bool, true, false, Option, Some, None, IsSome, Result}
+use Rattle.std.specs.Prelude.{◌≡◌, ℕ, Bool, Box, true, false, Option, Some, None, IsSome, Result}
 use Rattle.std.specs.Prelude.{[], ◌∷◌, Ok, Err, IsSomeAnd, length}
+use Rattle.std.specs.Global.{Global}
 use Rattle.numa_space.specs.Limited.{Bounds}
 use Rattle.numa_host.specs.Standing.{HostState, HostStandsFor, IsHostApplied}
 use Rattle.numa_huge.specs.Huge.{HugeLying}
@@ -73,6 +74,11 @@ abbrev pub StandsIn : Script → Bounds → Option RunningHost → Session → T
 StandsIn script limits None (Single state) = ScriptStandsFor script state × (limits ≡ state.bounds)
 StandsIn script limits (Some host) (Hosted at) = RunsAs host at
 StandsIn script limits _ _ = ⊥
+
+-- the host that lies on the heap
+abbrev pub unboxed : Option (Box RunningHost Global) → Option RunningHost
+unboxed None = None
+unboxed (Some running) = Some running.value
 
 -- ---- what a session is
 

@@ -21,7 +21,7 @@ use Rattle.numa_host_script.specs.Judged.{Starves, session_fault, session_refuse
 use Rattle.numa_host_script.specs.Sessions.{Hosted, Hosting, HostLack, Session, Single}
 use Rattle.numa_host_script.specs.Sessions.{session_after, session_answer, session_served}
 use Rattle.numa_host_script.specs.Paging.{arrived_text}
-use Rattle.numa_host_script.specs.Standing.{StandsIn, told}
+use Rattle.numa_host_script.specs.Standing.{StandsIn, told, unboxed}
 use Rattle.numa_host_script.specs.declared.script.HostScript.{HostScript}
 use Rattle.numa_host_script.specs.declared.taking.HostTaken.{HostTaken}
 use Rattle.numa_host_script.specs.declared.taking.HostTaken.TheVariants as taken
@@ -117,7 +117,8 @@ asks_pools _ = false
 -- ---- what a script does with a line
 
 abbrev pub SessionStandsFor : HostScript → Session → Type 0
-SessionStandsFor script session = StandsIn script.script script.limits script.host session
+SessionStandsFor script session =
+    StandsIn script.script script.limits (unboxed script.host) session
 
 -- the line was carried out, and the session that the definition says is reached
 abbrev pub SessionTakes : HostScript → ScriptLine → HostTaken → HostScript → Type 0

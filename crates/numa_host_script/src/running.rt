@@ -1,5 +1,5 @@
 //! A host, and where the pages of its processes lie.
-ghost use Rattle.std.specs.Prelude.{◌≡◌, List, MatchOption, false, true};
+ghost use Rattle.std.specs.Prelude.{◌≡◌, IfOk, List, MatchOption, false, true};
 ghost use Rattle.numa_host.specs.Processes.{commands_of, is_there, members_of};
 ghost use Rattle.numa_host.specs.Standing.{HostStandsFor, IsSpaceOf};
 ghost use Rattle.numa_requests.specs.declared.host_command.HostCommand.{HostCommand};
@@ -7,7 +7,9 @@ ghost use Rattle.numa_requests.specs.declared.host_command.HostCommand.{HostComm
 use numa_host::Host;
 use numa_host::process::find;
 use numa_host_pages::HostPages;
+use numa_machine::NoMemory;
 use numa_space::Space;
+use std::alloc::Global;
 
 /// A host, and where the pages of its processes lie.
 pub struct RunningHost {
@@ -21,6 +23,23 @@ impl Drop for RunningHost {
         let RunningHost { host, pages } = self;
         drop(host);
         drop(pages);
+    }
+}
+
+/// A host on the heap, with where the pages of its processes lie.
+///
+/// # Errors
+/// `NoMemory`: there is no memory for it.
+pub(crate) fn on_heap(
+    alloc: Global,
+    host: Host,
+    pages: HostPages,
+) -> Result<Box<RunningHost>, NoMemory>
+    ensures { IfOk result (λ made. made.value ≡ record { host = host; pages = pages }) }
+{
+    match Box::new(alloc, RunningHost { host, pages }) {
+        Ok(made) => Ok(made),
+        Err(_) => Err(NoMemory),
     }
 }
 

@@ -19,7 +19,7 @@ use crate::asking::{ask, list, question_cause};
 use crate::lines::{
     asks_move, asks_pools, fresh_machine, is_begin, limits_after, misplaced, plain_question,
 };
-use crate::running::RunningHost;
+use crate::running::{RunningHost, on_heap};
 use crate::taking::{HostTaken, take};
 use crate::telling::{say_arrived_in, say_last_in, say_shown_in};
 use numa_host::Host;
@@ -40,7 +40,8 @@ pub struct HostScript {
     script: Script,
     // The limits of the script's machine, or of the one to come.
     limits: Limits,
-    host: Option<RunningHost>,
+    // On the heap, since a script is handed on by value.
+    host: Option<Box<RunningHost>>,
 }
 
 // (By hand, so that it is proved here alone: what is derived is proved in each crate that drops.)
@@ -91,7 +92,10 @@ impl HostScript {
             return Reply::HostRefused(HostRefusal::NoMemory);
         };
         let host = Host::new(alloc, copy, self.limits);
-        drop(self.host.replace(RunningHost { host, pages }));
+        let Ok(running) = on_heap(alloc, host, pages) else {
+            return Reply::HostRefused(HostRefusal::NoMemory);
+        };
+        drop(self.host.replace(running));
         Reply::HostReady
     }
 
@@ -413,7 +417,7 @@ impl HostScript {
         ensures { (session : Session) → SessionStandsFor self.now session
             → MatchOption result (IsAlone session) (λ host. IsHostIn host.now session) }
     {
-        let running = self.host.as_ref()?;
+        let running = self.host.as_deref()?;
         Some(&running.host)
     }
 
@@ -422,7 +426,7 @@ impl HostScript {
         ensures { (session : Session) → SessionStandsFor self.now session
             → MatchOption result (IsAlone session) (λ pages. AreHostPages pages.now session) }
     {
-        let running = self.host.as_ref()?;
+        let running = self.host.as_deref()?;
         Some(&running.pages)
     }
 

@@ -3,7 +3,7 @@ use Rattle.std.specs.Prelude.{◌≡◌, Bool, Option}
 use Rattle.std.specs.Option.{option_map}
 use Rattle.numa_host_script.specs.Judged.{session_fault}
 use Rattle.numa_host_script.specs.Sessions.{HostLack, Session, session_after}
-use Rattle.numa_host_script.specs.Standing.{StandsIn}
+use Rattle.numa_host_script.specs.Standing.{StandsIn, unboxed}
 use Rattle.numa_host_script.specs.declared.script.HostScript.{HostScript}
 use Rattle.numa_script.specs.declared.line.ScriptLine.{ScriptLine}
 use Rattle.numa_script.specs.declared.reply.Reply.{Reply}
@@ -13,8 +13,9 @@ use Rattle.numa_diagnose.specs.declared.finding.Finding.{Finding}
 -- neither, and the script goes on
 abbrev pub Judged : HostScript → ScriptLine → Option Reply → HostScript → Type 0
 Judged old said found new =
-    (session : Session) → StandsIn old.script old.limits old.host session → (lack : HostLack)
-    × StandsIn new.script new.limits new.host (session_after lack session said)
+    (session : Session) → StandsIn old.script old.limits (unboxed old.host) session
+    → (lack : HostLack)
+    × StandsIn new.script new.limits (unboxed new.host) (session_after lack session said)
     × (found ≡ session_fault lack session said)
 
 -- the same of what is found

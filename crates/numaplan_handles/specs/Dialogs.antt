@@ -5,7 +5,7 @@ use Rattle.numaplan_handles.specs.Room.{Copies}
 use Rattle.numa_machine.specs.declared.rules.Rules.{Rules}
 use Rattle.numa_host_script.specs.Sessions.{HostLack, Session, session_after_bytes}
 use Rattle.numa_host_script.specs.Sessions.{session_answer_to, session_by}
-use Rattle.numa_host_script.specs.Standing.{StandsIn}
+use Rattle.numa_host_script.specs.Standing.{StandsIn, unboxed}
 use Rattle.numa_host_script.specs.declared.script.HostScript.{HostScript}
 use Rattle.numaplan_handles.specs.declared.dialog.Dialog.{Dialog}
 use Rattle.numaplan_handles.specs.declared.dialog.LineRefusal.{LineRefusal}
@@ -13,7 +13,7 @@ use Rattle.numaplan_handles.specs.declared.dialog.LineRefusal.TheVariants as ref
 
 -- the script stands for what its lines so far have led to
 abbrev pub IsAt : HostScript → Session → Type 0
-IsAt script session = StandsIn script.script script.limits script.host session
+IsAt script session = StandsIn script.script script.limits (unboxed script.host) session
 
 -- before the first line, where these rules count unless a line gives others
 abbrev pub IsFresh : Rules → Dialog → Type 0

@@ -2,7 +2,7 @@
 ghost use Rattle.std.specs.Prelude.{◌≡◌, [], Ok, Err, Bool, MatchOption};
 ghost use Rattle.numa_host_script.specs.Sessions.{HostLack, Session, session_after_bytes};
 ghost use Rattle.numa_host_script.specs.Sessions.{session_answer_to};
-ghost use Rattle.numa_host_script.specs.Standing.{StandsIn};
+ghost use Rattle.numa_host_script.specs.Standing.{StandsIn, unboxed};
 ghost use Rattle.numaplan_handles.specs.Dialogs.{IsFresh, Serves};
 ghost use Rattle.numaplan_handles.specs.Room.{Copies};
 
@@ -35,9 +35,9 @@ pub struct Dialog {
 /// Serves a line, and returns its answer, if there is memory for it.
 fn serve(script: &mut HostScript, alloc: Global, line: &[u8], room: Vec<u8>) -> Option<Vec<u8>>
     requires empty { room.items ≡ [] }
-    ensures { (session : Session) → StandsIn script.old.script script.old.limits script.old.host
-        session → (lack : HostLack)
-        × StandsIn script.new.script script.new.limits script.new.host
+    ensures { (session : Session) → StandsIn script.old.script script.old.limits
+        (unboxed script.old.host) session → (lack : HostLack)
+        × StandsIn script.new.script script.new.limits (unboxed script.new.host)
         (session_after_bytes lack session line.now)
         × MatchOption result (Unit {0})
         (λ answer. answer.items ≡ session_answer_to lack session line.now) }

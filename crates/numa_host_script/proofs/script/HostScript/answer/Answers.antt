@@ -1,3 +1,6 @@
+use Rattle.std.proofs.Common.{Some, sym, subst}
+use Rattle.numa_host_script.specs.Standing.{StandsIn}
+use Rattle.numa_host_script.specs.declared.running.RunningHost.{RunningHost}
 use Rattle.numa_host_script.proofs.Written.{asked-foreign, asked-nobody, asked-there}
 use Rattle.numa_host_script.proofs.script.HostScript.answer.Goals as goal
 
@@ -14,15 +17,19 @@ returns-in_default-process g c =
     rw c.in-Some.is
     (λ session stands.
     asked-nobody g.W.Write.contents c.args.output.now c.say_reply-in_default-process.new.output
-    c.args.self.now.script c.args.self.now.limits c.in-Some.running c.args.process
+    c.args.self.now.script c.args.self.now.limits c.deref.result.now c.args.process
     c.args.question session c.say_reply-in_default-process.ensures
-    c.in_default-process.ensures stands)
+    c.in_default-process.ensures
+    (subst (λ (r : RunningHost). StandsIn c.args.self.now.script c.args.self.now.limits
+    (Some r) session) (sym c.deref.ensures) stands))
 
 pub returns : goal.returns
 returns g c =
     rw c.in-Some.is
     (λ session stands.
     asked-there g.W.Write.contents c.args.output.now c.ask.new.output c.args.self.now.script
-    c.args.self.now.limits c.in-Some.running c.args.process c.args.question
+    c.args.self.now.limits c.deref.result.now c.args.process c.args.question
     c.in-Some-process.space.now c.ask.result session c.in-Some-process.ensures
-    c.ask.ensures.answer c.ask.ensures.ranges stands)
+    c.ask.ensures.answer c.ask.ensures.ranges
+    (subst (λ (r : RunningHost). StandsIn c.args.self.now.script c.args.self.now.limits
+    (Some r) session) (sym c.deref.ensures) stands))

@@ -5,7 +5,8 @@ pub returns-in-Some : goal.returns-in-Some
 returns-in-Some c =
     rw c.in-Some.is
     (λ process session stands.
-    told-arrived c.args.self.now.script c.args.self.now.limits c.in-Some.field-0 process session
+    told-arrived c.args.self.now.script c.args.self.now.limits c.in-Some.field-0.value process
+    session
     stands)
 
 pub returns : goal.returns

@@ -6,14 +6,14 @@ pub returns-in_default-misplaced : goal.returns-in_default-misplaced
 returns-in_default-misplaced c =
     rw c.in-Some.is
     (λ session stands.
-    told-misplaced c.args.self.now.script c.args.self.now.limits c.in-Some.field-0
+    told-misplaced c.args.self.now.script c.args.self.now.limits c.in-Some.field-0.value
     c.args.taken None session (sym c.in_default-misplaced.is ∙ c.misplaced.ensures) stands)
 
 pub returns-in-Some : goal.returns-in-Some
 returns-in-Some c =
     rw (c.in-Some.is, c.fault.ensures)
     (λ session stands.
-    told-misplaced c.args.self.now.script c.args.self.now.limits c.in-Some.field-0
+    told-misplaced c.args.self.now.script c.args.self.now.limits c.in-Some.field-0.value
     c.args.taken (Some c.in-Some-misplaced.reply) session
     (sym c.in-Some-misplaced.is ∙ c.misplaced.ensures) stands)
 

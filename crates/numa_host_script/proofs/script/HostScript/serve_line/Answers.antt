@@ -1,5 +1,6 @@
 use Rattle.numa_run.specs.declared.running.Taken.TheVariants as own
 use Rattle.numa_host_script.specs.declared.taking.HostTaken.TheVariants as taken
+use Rattle.numa_host_script.specs.Standing.{unboxed}
 use Rattle.numa_host_script.proofs.Left.{asked-left}
 use Rattle.numa_host_script.proofs.Written.{served-line}
 use Rattle.numa_host_script.proofs.script.HostScript.serve_line.Goals as goal
@@ -7,10 +8,11 @@ use Rattle.numa_host_script.proofs.script.HostScript.serve_line.Goals as goal
 pub returns-in-Some : goal.returns-in-Some
 returns-in-Some g c = λ session stands.
     served-line g.W.Write.contents c.args.output.now c.write_own.new.output
-    c.args.self.now.script c.args.self.now.limits c.args.self.now.host
-    c.write_own.new.self.script c.write_own.new.self.limits c.write_own.new.self.host
+    c.args.self.now.script c.args.self.now.limits (unboxed c.args.self.now.host)
+    c.write_own.new.self.script c.write_own.new.self.limits (unboxed c.write_own.new.self.host)
     c.args.said.now (taken.Own (own.Question c.in-Some.question)) c.write_own.result session
-    (asked-left c.args.self.now.script c.args.self.now.limits c.args.self.now.host session
+    (asked-left c.args.self.now.script c.args.self.now.limits (unboxed c.args.self.now.host)
+    session
     c.args.said.now c.in-Some.question c.in-Some.ensures stands) c.write_own.ensures
 
 pub take_own-taken-requires : goal.take_own-taken-requires
@@ -22,6 +24,7 @@ pub returns : goal.returns
 returns g c = λ session stands.
     served-line g.W.Write.contents c.args.output.now c.write_own-2.new.output
     c.take_own-taken.new.self.script c.take_own-taken.new.self.limits
-    c.take_own-taken.new.self.host c.write_own-2.new.self.script c.write_own-2.new.self.limits
-    c.write_own-2.new.self.host c.args.said.now (taken.Own c.take_own-taken.result)
+    (unboxed c.take_own-taken.new.self.host) c.write_own-2.new.self.script
+    c.write_own-2.new.self.limits
+    (unboxed c.write_own-2.new.self.host) c.args.said.now (taken.Own c.take_own-taken.result)
     c.write_own-2.result session (c.take_own-taken.ensures session stands) c.write_own-2.ensures

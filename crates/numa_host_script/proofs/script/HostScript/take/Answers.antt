@@ -1,11 +1,13 @@
-use Rattle.std.proofs.Common.{◌∙◌, sym}
+use Rattle.std.proofs.Common.{◌∙◌, sym, subst}
+use Rattle.numa_host_script.specs.declared.running.RunningHost.{RunningHost}
+use Rattle.numa_host_script.specs.Standing.{Takes, unboxed}
 use Rattle.numa_host_script.proofs.Taken.{taken-begin, taken-foreign, taken-hosted}
 use Rattle.numa_host_script.proofs.script.HostScript.take.Goals as goal
 
 pub returns-then-is_begin : goal.returns-then-is_begin
 returns-then-is_begin c = λ session stands.
     taken-begin c.args.self.now.script c.args.self.now.limits c.args.said.now c.begin.result
-    c.begin.new.self.script c.begin.new.self.limits c.begin.new.self.host session
+    c.begin.new.self.script c.begin.new.self.limits (unboxed c.begin.new.self.host) session
     (sym c.is_begin.ensures ∙ c.if-is_begin.true) (c.begin.ensures session stands)
 
 pub returns-in-Some : goal.returns-in-Some
@@ -13,8 +15,10 @@ returns-in-Some c =
     rw c.in-Some.is
     (λ session stands.
     taken-hosted c.args.self.now.script c.args.self.now.limits c.args.said.now c.take.result
-    c.in-Some.running c.take.new.running session (sym c.is_begin.ensures ∙ c.if-is_begin.false)
-    c.take.ensures stands)
+    c.in-Some.running.value c.take.new.running session
+    (sym c.is_begin.ensures ∙ c.if-is_begin.false)
+    (subst (λ (r : RunningHost). Takes r c.args.said.now c.take.result c.take.new.running)
+    c.deref_mut.ensures.value c.take.ensures) stands)
 
 pub returns-in-Some-process : goal.returns-in-Some-process
 returns-in-Some-process c =

@@ -1,4 +1,7 @@
-use Rattle.numa_host_script.proofs.Written.{moved-foreign, moved-nobody, moved-there}
+use Rattle.std.proofs.Common.{Some, sym, subst, ◌∙◌}
+use Rattle.numa_host_script.specs.Standing.{StandsIn}
+use Rattle.numa_host_script.specs.declared.running.RunningHost.{RunningHost}
+use Rattle.numa_host_script.proofs.Written.{TellsLast, moved-foreign, moved-nobody, moved-there}
 use Rattle.numa_host_script.proofs.script.HostScript.tell_last.Goals as goal
 
 pub returns-in_default : goal.returns-in_default
@@ -15,13 +18,20 @@ returns-in_default-process g c =
     (λ session stands.
     moved-nobody g.W.Write.contents c.args.output.now
     c.say_reply-in_default-process.new.output c.args.self.now.script c.args.self.now.limits
-    c.in-Some.running c.args.process session c.say_reply-in_default-process.ensures
-    c.in_default-process.ensures stands)
+    c.deref.result.now c.args.process session c.say_reply-in_default-process.ensures
+    c.in_default-process.ensures
+    (subst (λ (r : RunningHost). StandsIn c.args.self.now.script c.args.self.now.limits
+    (Some r) session) (sym c.deref.ensures) stands))
 
 pub returns : goal.returns
 returns g c =
     rw c.in-Some.is
     (λ session stands.
     moved-there g.W.Write.contents c.args.output.now c.say_last_in.new.output
-    c.args.self.now.script c.args.self.now.limits c.in-Some.running c.args.process
-    c.in-Some-process.field-0.now session c.in-Some-process.ensures c.say_last_in.ensures stands)
+    c.args.self.now.script c.args.self.now.limits c.deref.result.now c.args.process
+    c.in-Some-process.field-0.now session c.in-Some-process.ensures
+    (subst (λ (r : RunningHost). TellsLast g.W.Write.contents c.args.output.now
+    c.say_last_in.new.output r c.args.process) (c.deref-2.ensures ∙ sym c.deref.ensures)
+    c.say_last_in.ensures) (subst (λ (r : RunningHost). StandsIn c.args.self.now.script
+    c.args.self.now.limits
+    (Some r) session) (sym c.deref.ensures) stands))
