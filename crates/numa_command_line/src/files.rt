@@ -13,7 +13,8 @@ const AWAITED: &str = "numaplan: a script is awaited, line by line; Ctrl-D ends 
 #[derive(Drop)]
 pub enum Source<F, I> {
     File(F),
-    Standard(I),
+    // On the heap, since it has a buffer of 8 KiB and a source is handed on by value.
+    Standard(Box<I>),
     Nothing,
 }
 
@@ -66,7 +67,10 @@ where
     R::Reader: IsTerminal,
 {
     if name == "-" {
-        return Ok(Source::Standard(standard_input(rt)));
+        return match Box::new(rt.alloc(), standard_input(rt)) {
+            Ok(input) => Ok(Source::Standard(input)),
+            Err(_) => Err(JobFault::NoMemory),
+        };
     }
     match open_file(rt, name) {
         Ok(file) => Ok(Source::File(file)),
