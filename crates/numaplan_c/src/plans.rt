@@ -18,6 +18,7 @@ use crate::codes::{Code, place_code};
 use crate::keeping::{ensure_closed, if_open, memory_code, open_from, tell_if_open};
 use crate::texts::{copy_code, length_copied};
 use numa_machine::{NoMemory, PlaceRefusal};
+use numa_page_state::Toucher;
 use numa_plan::{PageTurns, Plan};
 use numaplan_handles::{ChoiceRefusal, CoreHandle, PlanHandle, PlanView};
 use std::alloc::Global;
@@ -188,7 +189,7 @@ pub extern "C" fn np_plan_fill(
         (λ kept. (answer : Result (Unit {0}) PlaceRefusal) × (result ≡ fill_code answer)
         × Fills (plan_seen plan.now) task first cpu answer nodes.old nodes.new) }
 {
-    if_open!(plan.fill(task, first, cpu, nodes), answer => fill_code(answer))
+    if_open!(plan.fill(Toucher { task, cpu }, first, nodes), answer => fill_code(answer))
 }
 
 /// Writes the first node of each page's list for a span, or a mark.
@@ -205,7 +206,9 @@ pub extern "C" fn np_plan_fill_marked(
         (λ kept. (answer : Result (Unit {0}) PlaceRefusal) × (result ≡ fill_code answer)
         × FillsMarked (plan_seen plan.now) task first cpu unmapped answer nodes.old nodes.new) }
 {
-    if_open!(plan.fill_marked(task, first, cpu, unmapped, nodes), answer => fill_code(answer))
+    if_open!(plan.fill_marked(Toucher { task, cpu }, first, unmapped, nodes), answer => {
+        fill_code(answer)
+    })
 }
 
 /// Writes the first node of the list of each of some pages, or a mark.
@@ -222,7 +225,9 @@ pub extern "C" fn np_plan_nodes(
         (λ kept. (answer : Result ℕ ChoiceRefusal) × (result ≡ choice_code answer)
         × Marks (plan_seen plan.now) task pages.now cpu unmapped answer nodes.old nodes.new) }
 {
-    if_open!(plan.nodes_of(task, pages, cpu, unmapped, nodes), answer => choice_code(answer))
+    if_open!(plan.nodes_of(Toucher { task, cpu }, pages, unmapped, nodes), answer => {
+        choice_code(answer)
+    })
 }
 
 /// Lists the runs of a plan, and after how many of its pages the lists of each come again.

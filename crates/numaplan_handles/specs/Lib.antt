@@ -7,6 +7,7 @@ pub mod Hosted
 pub mod Hosts
 pub mod Kinds
 pub mod Ownership
+pub mod PageCalls
 pub mod Pages
 pub mod Plans
 pub mod Room

@@ -20,7 +20,6 @@ mod kept;
 mod nodes_there;
 mod pages_handle;
 mod pages_moves;
-mod pages_pools;
 mod pages_questions;
 mod place;
 mod plan_handle;

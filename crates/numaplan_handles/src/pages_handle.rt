@@ -1,9 +1,9 @@
 //! A handle of a core with its pages.
 ghost use Rattle.std.specs.Prelude.{◌≡◌, Some, None, true, OnOk, OnErr, IfOk};
-ghost use Rattle.numa_pages.specs.Changes.{Accepts, BindsStrictly};
-ghost use Rattle.numaplan_handles.specs.Calls.{Calls, IsShared};
+ghost use Rattle.numa_pages.specs.Changes.{Accepts};
+ghost use Rattle.numaplan_handles.specs.Calls.{IsShared};
 ghost use Rattle.numaplan_handles.specs.Kinds.{core_of, is_core, is_pages, pages_of};
-ghost use Rattle.numaplan_handles.specs.Pages.{IsCoreOf, IsMade, IsOpenedFrom, OfPages};
+ghost use Rattle.numaplan_handles.specs.Pages.{IsCoreOf, IsMade, IsOpenedFrom};
 
 use crate::core_handle::CoreHandle;
 use crate::core_questions::core_kept;
@@ -11,7 +11,6 @@ use crate::handle::{Handle, of_kept};
 use crate::kept::{Kept, kept_as};
 use numa_core::Core;
 use numa_machine::NoMemory;
-use numa_mode::PolicySpec;
 use numa_pages::{ChangeRefusal, Pages};
 use numa_requests::Command;
 use std::alloc::{AllocError, Global};
@@ -42,6 +41,7 @@ fn pages_of_core(kept: &Kept, alloc: Global) -> Result<Pages, NoMemory>
 
 impl PagesHandle {
     ghost use Rattle.numaplan_handles.specs.Handles.{core_in, pages_in};
+    ghost use Rattle.numaplan_handles.specs.PageCalls.{CallsPages};
 
     /// Puts a copy of a core into a closed handle: nothing is stated of its pages, and no node
     /// ever fills. Later events of the core don't affect the copy. `None` if the core's handle is
@@ -118,30 +118,9 @@ impl PagesHandle {
     /// # Errors
     /// In the `Some`, as [`Pages::accept`].
     pub fn accept(&mut self, alloc: Global, command: &Command) -> Option<Result<u64, ChangeRefusal>>
-        ensures { Calls (OfPages (Accepts command.now)) (pages_in self.old) result
-            (pages_in self.new) }
+        ensures { CallsPages (Accepts command.now) self.old result self.new }
     {
         of_kept!(self.handle, alloc, Kept::Pages(pages) => pages.accept(command))
-    }
-
-    /// Sets a policy for a span, unless a page of it lies on another node than the policy asks for.
-    /// `None` if the handle is closed.
-    ///
-    /// # Errors
-    /// In the `Some`, as [`Pages::bind_strictly`].
-    pub fn bind_strictly(
-        &mut self,
-        alloc: Global,
-        start: u64,
-        length: u64,
-        spec: PolicySpec,
-    ) -> Option<Result<u64, ChangeRefusal>>
-        ensures { Calls (OfPages (BindsStrictly start length spec)) (pages_in self.old) result
-            (pages_in self.new) }
-    {
-        of_kept!(self.handle, alloc, Kept::Pages(pages) => {
-            pages.bind_strictly(start, length, spec)
-        })
     }
 
     /// Puts a core into a closed handle of cores.

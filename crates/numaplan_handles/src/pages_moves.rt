@@ -1,18 +1,19 @@
-//! Stating where pages lie, touching them first, and moving them, through a handle.
-ghost use Rattle.numa_pages.specs.Changes.{BindsMoving, Limits, Migrates, MovesMems, MovesPage};
-ghost use Rattle.numa_pages.specs.Changes.{Places, Touches};
-ghost use Rattle.numaplan_handles.specs.Calls.{Calls};
-ghost use Rattle.numaplan_handles.specs.Handles.{pages_in};
-ghost use Rattle.numaplan_handles.specs.Pages.{OfPages};
+//! Stating where pages lie, touching them first, moving them, and the pools of pages of 2 MiB,
+//! through a handle.
+ghost use Rattle.numa_pages.specs.Changes.{BindsMoving, BindsStrictly, Faults, Limits, Migrates};
+ghost use Rattle.numa_pages.specs.Changes.{MovesMems, MovesPage, Places, Touches};
+ghost use Rattle.numa_pages.specs.PoolCalls.{MapsHuge, ResizesAll, ResizesFor, ResizesNode};
+ghost use Rattle.numaplan_handles.specs.PageCalls.{CallsPages};
 
 use crate::handle::of_kept;
 use crate::kept::Kept;
 use crate::pages_handle::PagesHandle;
 use numa_mask::NodeMask;
+use numa_mode::PolicySpec;
 use numa_page_state::{Arrived, Rebinding, Toucher};
-use numa_pages::{ChangeRefusal, Rebound};
+use numa_pages::{ChangeRefusal, HugeMapping, Rebound};
 use numa_placed::Moved;
-use numa_requests::{MoveRefusal, PlacedRefusal};
+use numa_requests::{HugeRefusal, MoveRefusal, PlacedRefusal};
 use std::alloc::Global;
 
 impl PagesHandle {
@@ -27,8 +28,7 @@ impl PagesHandle {
         length: u64,
         node: u32,
     ) -> Option<Result<(), ChangeRefusal>>
-        ensures { Calls (OfPages (Places start length node)) (pages_in self.old) result
-            (pages_in self.new) }
+        ensures { CallsPages (Places start length node) self.old result self.new }
     {
         of_kept!(self.handle, alloc, Kept::Pages(pages) => pages.place(start, length, node))
     }
@@ -47,8 +47,7 @@ impl PagesHandle {
         task: u32,
         cpu: u32,
     ) -> Option<Result<Arrived, PlacedRefusal>>
-        ensures { Calls (OfPages (Touches start length task cpu)) (pages_in self.old) result
-            (pages_in self.new) }
+        ensures { CallsPages (Touches start length task cpu) self.old result self.new }
     {
         of_kept!(self.handle, alloc, Kept::Pages(pages) => {
             pages.populate(start, length, task, cpu)
@@ -66,7 +65,7 @@ impl PagesHandle {
         node: u32,
         room: u64,
     ) -> Option<Result<(), PlacedRefusal>>
-        ensures { Calls (OfPages (Limits node room)) (pages_in self.old) result (pages_in self.new) }
+        ensures { CallsPages (Limits node room) self.old result self.new }
     {
         of_kept!(self.handle, alloc, Kept::Pages(pages) => pages.limit(node, room))
     }
@@ -82,8 +81,7 @@ impl PagesHandle {
         from: &NodeMask,
         to: &NodeMask,
     ) -> Option<Result<Moved, PlacedRefusal>>
-        ensures { Calls (OfPages (Migrates from.now to.now)) (pages_in self.old) result
-            (pages_in self.new) }
+        ensures { CallsPages (Migrates from.now to.now) self.old result self.new }
     {
         of_kept!(self.handle, alloc, Kept::Pages(pages) => pages.migrate(from, to))
     }
@@ -98,10 +96,28 @@ impl PagesHandle {
         address: u64,
         node: u32,
     ) -> Option<Result<(), MoveRefusal>>
-        ensures { Calls (OfPages (MovesPage address node)) (pages_in self.old) result
-            (pages_in self.new) }
+        ensures { CallsPages (MovesPage address node) self.old result self.new }
     {
         of_kept!(self.handle, alloc, Kept::Pages(pages) => pages.move_page(address, node))
+    }
+
+    /// Sets a policy for a span, unless a page of it lies on another node than the policy asks for.
+    /// `None` if the handle is closed.
+    ///
+    /// # Errors
+    /// In the `Some`, as [`Pages::bind_strictly`](numa_pages::Pages::bind_strictly).
+    pub fn bind_strictly(
+        &mut self,
+        alloc: Global,
+        start: u64,
+        length: u64,
+        spec: PolicySpec,
+    ) -> Option<Result<u64, ChangeRefusal>>
+        ensures { CallsPages (BindsStrictly start length spec) self.old result self.new }
+    {
+        of_kept!(self.handle, alloc, Kept::Pages(pages) => {
+            pages.bind_strictly(start, length, spec)
+        })
     }
 
     /// Sets a policy for a span, moves the pages that lie on other nodes than it asks for, as far
@@ -116,8 +132,8 @@ impl PagesHandle {
         strict: bool,
         toucher: Toucher,
     ) -> Option<Result<Rebound, ChangeRefusal>>
-        ensures { Calls (OfPages (BindsMoving said.start said.length said.spec strict toucher.task
-            toucher.cpu)) (pages_in self.old) result (pages_in self.new) }
+        ensures { CallsPages (BindsMoving said.start said.length said.spec strict toucher.task
+            toucher.cpu) self.old result self.new }
     {
         let Rebinding {
             start,
@@ -140,8 +156,81 @@ impl PagesHandle {
         alloc: Global,
         mask: NodeMask,
     ) -> Option<Result<Moved, ChangeRefusal>>
-        ensures { Calls (OfPages (MovesMems mask)) (pages_in self.old) result (pages_in self.new) }
+        ensures { CallsPages (MovesMems mask) self.old result self.new }
     {
         of_kept!(self.handle, alloc, Kept::Pages(pages) => pages.move_mems(mask))
+    }
+
+    /// Makes the pools of all nodes with memory have so many pages together that aren't surplus.
+    /// `None` if the handle is closed.
+    pub fn resize(&mut self, alloc: Global, pages: u64) -> Option<()>
+        ensures { CallsPages (ResizesAll pages) self.old result self.new }
+    {
+        of_kept!(self.handle, alloc, Kept::Pages(it) => it.resize(pages))
+    }
+
+    /// Makes the pool of a node have so many pages that aren't surplus. `None` if the handle is
+    /// closed.
+    ///
+    /// # Errors
+    /// In the `Some`, as [`Pages::resize_node`](numa_pages::Pages::resize_node).
+    pub fn resize_node(
+        &mut self,
+        alloc: Global,
+        node: u32,
+        pages: u64,
+    ) -> Option<Result<(), HugeRefusal>>
+        ensures { CallsPages (ResizesNode node pages) self.old result self.new }
+    {
+        of_kept!(self.handle, alloc, Kept::Pages(it) => it.resize_node(node, pages))
+    }
+
+    /// Makes the pools of the nodes of a task's policy have so many pages together, for a task on a
+    /// CPU of node `cpu`. `None` if the handle is closed.
+    ///
+    /// # Errors
+    /// In the `Some`, as [`Pages::resize_for`](numa_pages::Pages::resize_for).
+    pub fn resize_for(
+        &mut self,
+        alloc: Global,
+        pages: u64,
+        task: u32,
+        cpu: u32,
+    ) -> Option<Result<(), HugeRefusal>>
+        ensures { CallsPages (ResizesFor pages task cpu) self.old result self.new }
+    {
+        of_kept!(self.handle, alloc, Kept::Pages(it) => it.resize_for(pages, task, cpu))
+    }
+
+    /// Maps a span as pages of 2 MiB, which its task reserves or doesn't. `None` if the handle is
+    /// closed.
+    ///
+    /// # Errors
+    /// In the `Some`, as [`Pages::map_huge`](numa_pages::Pages::map_huge).
+    pub fn map_huge(
+        &mut self,
+        alloc: Global,
+        said: &HugeMapping,
+    ) -> Option<Result<u64, ChangeRefusal>>
+        ensures { CallsPages (MapsHuge said.now) self.old result self.new }
+    {
+        of_kept!(self.handle, alloc, Kept::Pages(it) => it.map_huge(said))
+    }
+
+    /// Touches the page of an address for the first time, and returns the node where it lies then.
+    /// `None` if the handle is closed.
+    ///
+    /// # Errors
+    /// In the `Some`, as [`Pages::fault`](numa_pages::Pages::fault).
+    pub fn fault(
+        &mut self,
+        alloc: Global,
+        task: u32,
+        address: u64,
+        cpu: u32,
+    ) -> Option<Result<u8, HugeRefusal>>
+        ensures { CallsPages (Faults task address cpu) self.old result self.new }
+    {
+        of_kept!(self.handle, alloc, Kept::Pages(it) => it.fault(task, address, cpu))
     }
 }

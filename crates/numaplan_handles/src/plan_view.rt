@@ -10,6 +10,7 @@ use crate::plan_handle::PlanHandle;
 use crate::room::copy_items;
 use crate::view::View;
 use numa_machine::PlaceRefusal;
+use numa_page_state::Toucher;
 use numa_plan::{PageTurns, Plan};
 use numa_requests::Request;
 use std::alloc::{AllocError, Global};
@@ -55,17 +56,17 @@ fn choose(plan: &Plan, asked: Request, nodes: &mut [u8]) -> Result<usize, Choice
 /// Writes the first node of the list of each of these pages, or the mark, for a task on a CPU.
 fn mark(
     plan: &Plan,
-    by: (u32, u32),
+    by: Toucher,
     pages: &[u64],
     unmapped: u8,
     nodes: &mut [u8],
 ) -> Result<usize, ChoiceRefusal>
-    ensures { Marks (Some plan.now) by.0 pages.now by.1 unmapped result nodes.old nodes.new }
+    ensures { Marks (Some plan.now) by.task pages.now by.cpu unmapped result nodes.old nodes.new }
 {
     if pages.len() != nodes.len() {
         return Err(ChoiceRefusal::TooShort(pages.len()));
     }
-    match plan.nodes_of(by.0, pages, by.1, unmapped, nodes) {
+    match plan.nodes_of(by.task, pages, by.cpu, unmapped, nodes) {
         Ok(()) => Ok(pages.len()),
         Err(refusal) => Err(ChoiceRefusal::Place(refusal)),
     }
@@ -149,18 +150,17 @@ impl PlanView {
     /// As [`Plan::fill`].
     pub fn fill(
         &self,
-        task: u32,
+        by: Toucher,
         first: u64,
-        cpu: u32,
         nodes: &mut [u8],
     ) -> Option<Result<(), PlaceRefusal>>
         ensures fills { Reads (λ answer.
-            Fills (plan_seen self.now) task first cpu answer nodes.old nodes.new)
+            Fills (plan_seen self.now) by.task first by.cpu answer nodes.old nodes.new)
             (plan_seen self.now) result }
         ensures closed { plan_seen self.now ≡ None → nodes.new ≡ nodes.old }
     {
         let plan = self.plan()?;
-        Some(plan.fill(task, first, cpu, nodes))
+        Some(plan.fill(by.task, first, by.cpu, nodes))
     }
 
     /// The same, with the mark `unmapped` for pages that aren't mapped. `None` if the handle is
@@ -170,18 +170,17 @@ impl PlanView {
     /// As [`Plan::fill_marked`].
     pub fn fill_marked(
         &self,
-        task: u32,
+        by: Toucher,
         first: u64,
-        cpu: u32,
         unmapped: u8,
         nodes: &mut [u8],
     ) -> Option<Result<(), PlaceRefusal>>
-        ensures fills { Reads (λ answer. FillsMarked (plan_seen self.now) task first cpu unmapped
-            answer nodes.old nodes.new) (plan_seen self.now) result }
+        ensures fills { Reads (λ answer. FillsMarked (plan_seen self.now) by.task first by.cpu
+            unmapped answer nodes.old nodes.new) (plan_seen self.now) result }
         ensures closed { plan_seen self.now ≡ None → nodes.new ≡ nodes.old }
     {
         let plan = self.plan()?;
-        Some(plan.fill_marked(task, first, cpu, unmapped, nodes))
+        Some(plan.fill_marked(by.task, first, by.cpu, unmapped, nodes))
     }
 
     /// Writes the first node of the list of each of these pages, and the mark `unmapped` for those
@@ -191,18 +190,17 @@ impl PlanView {
     /// `TooShort`: there aren't as many places as pages; else as [`Plan::nodes_of`].
     pub fn nodes_of(
         &self,
-        task: u32,
+        by: Toucher,
         pages: &[u64],
-        cpu: u32,
         unmapped: u8,
         nodes: &mut [u8],
     ) -> Option<Result<usize, ChoiceRefusal>>
-        ensures told { Reads (λ answer. Marks (plan_seen self.now) task pages.now cpu unmapped
-            answer nodes.old nodes.new) (plan_seen self.now) result }
+        ensures told { Reads (λ answer. Marks (plan_seen self.now) by.task pages.now by.cpu
+            unmapped answer nodes.old nodes.new) (plan_seen self.now) result }
         ensures closed { plan_seen self.now ≡ None → nodes.new ≡ nodes.old }
     {
         let plan = self.plan()?;
-        Some(mark(plan, (task, cpu), pages, unmapped, nodes))
+        Some(mark(plan, by, pages, unmapped, nodes))
     }
 
     /// Writes what is said of each run of the plan at the start of `room`, in ascending order;
