@@ -1,7 +1,7 @@
-//! Opening, copying and closing cores and hosts.
+//! Opening, copying and closing cores, cores with their pages, and hosts.
 ghost use Rattle.std.specs.Prelude.{◌≡◌, ◌≢◌, ◌≤◌, [], Some, None, true, is_some};
 ghost use Rattle.std.specs.Prelude.{IfOk, IfErr, IfSome, MatchOption, MatchResult, is_ok};
-ghost use Rattle.numaplan_handles.specs.Handles.{core_in, host_in};
+ghost use Rattle.numaplan_handles.specs.Handles.{core_in, host_in, pages_in};
 ghost use Rattle.numa_core.specs.Standing.{LeadsTo, setup_of};
 ghost use Rattle.numa_mask.specs.Lists.{list_of};
 ghost use Rattle.numaplan_c.specs.Border.{Asked, IsMachineOf, IsSetUp, Makes, Opens, Shares};
@@ -11,9 +11,10 @@ ghost use Rattle.numa_machine.specs.declared.fallback.Fallback.{Fallback};
 ghost use Rattle.numaplan_c.specs.Hosts.{IsHostSetUp};
 ghost use Rattle.numaplan_c.specs.Options.{documents, options_of};
 ghost use Rattle.numaplan_handles.specs.Hosts.{IsHostCopyOf};
+ghost use Rattle.numaplan_handles.specs.Pages.{IsCoreOf, IsOpenedFrom};
 
 use crate::codes::Code;
-use crate::keeping::{ensure_closed, if_open, memory_code, open_from, or_return};
+use crate::keeping::{ensure_closed, if_open, memory_code, open_from, or_return, tell_if_open};
 use crate::machines::machine_of;
 use crate::options::{NpOptions, Options, documents, options_of};
 use numa_core::Core;
@@ -21,7 +22,7 @@ use numa_host::Host;
 use numa_host_script::RunningHost;
 use numa_machine::Machine;
 use numa_requests::Limits;
-use numaplan_handles::{CoreHandle, HostHandle};
+use numaplan_handles::{CoreHandle, HostHandle, PagesHandle};
 use std::alloc::Global;
 
 /// The limits of a core: the most ranges, tasks with a policy, and accepted commands.
@@ -271,4 +272,61 @@ pub extern "C" fn np_host_copy(alloc: Global, host: &mut HostHandle, copy: &mut 
         (host_in copy.new) }
 {
     open_from!(copy, host.copy(alloc, copy))
+}
+
+/// Opens a copy of a core with its pages.
+#[unsafe(no_mangle)]
+pub extern "C" fn np_pages_open(
+    alloc: Global,
+    pages: &mut PagesHandle,
+    core: &mut CoreHandle,
+) -> u32
+    ensures same { core_in core.new ≡ core_in core.old }
+    ensures opens { Makes IsOpenedFrom (core_in core.old) (pages_in pages.old) result
+        (pages_in pages.new) }
+{
+    open_from!(pages, pages.open(alloc, core))
+}
+
+/// Opens another handle with a copy of a core with its pages.
+#[unsafe(no_mangle)]
+pub extern "C" fn np_pages_copy(
+    alloc: Global,
+    pages: &mut PagesHandle,
+    copy: &mut PagesHandle,
+) -> u32
+    ensures { Shares pages_in pages.old copy.old result pages.new copy.new }
+{
+    open_from!(copy, pages.copy(alloc, copy))
+}
+
+/// Opens a handle of a core with a copy of the core.
+#[unsafe(no_mangle)]
+pub extern "C" fn np_pages_core(
+    alloc: Global,
+    pages: &mut PagesHandle,
+    core: &mut CoreHandle,
+) -> u32
+    ensures same { pages_in pages.new ≡ pages_in pages.old }
+    ensures opens { Makes IsCoreOf (pages_in pages.old) (core_in core.old) result
+        (core_in core.new) }
+{
+    open_from!(core, pages.copy_core(alloc, core))
+}
+
+/// Returns the number of accepted commands.
+#[unsafe(no_mangle)]
+pub extern "C" fn np_pages_version(alloc: Global, pages: &mut PagesHandle, version: &mut u64) -> u32
+    ensures { Asked (pages_in pages.old) (pages_in pages.new) result (version.new ≡ version.old)
+        (λ kept. (result ≡ 0) × (version.new ≡ kept.core.space.version)) }
+{
+    tell_if_open!(version, pages.version(alloc))
+}
+
+/// Frees a core with its pages.
+#[unsafe(no_mangle)]
+pub extern "C" fn np_pages_close(alloc: Global, pages: &mut PagesHandle)
+    ensures { pages_in pages.new ≡ None }
+{
+    pages.handle.close(alloc)
 }
