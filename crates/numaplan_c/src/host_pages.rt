@@ -25,7 +25,7 @@ use numa_mask::{NodeMask, read_list};
 use numa_mode::PolicySpec;
 use numa_page_state::Rebinding;
 use numa_script::policy::read_policy;
-use numa_script::{BoundPages, MoveWords, Reply, WordError};
+use numa_script::{BoundPages, MoveWords, PageLine, Reply, WordError};
 use numaplan_handles::HostHandle;
 use std::alloc::Global;
 
@@ -62,7 +62,9 @@ pub extern "C" fn np_host_place(
 ) -> u32
     ensures { PagesChange process (PageLine.At start length node) host.old result host.new }
 {
-    if_open!(host.place(alloc, process, start, length, node), told => told_code(&told))
+    if_open!(host.change(alloc, process, &PageLine::At { start, length, node }), told => {
+        told_code(&told)
+    })
 }
 
 /// Touches each page of a span of a process for the first time, as a task does that writes to it.
@@ -97,7 +99,8 @@ pub extern "C" fn np_host_move(
 ) -> u32
     ensures { PagesChange process (PageLine.Move address node) host.old result host.new }
 {
-    if_open!(host.move_page(alloc, process, address, node), told => told_code(&told))
+    let line = PageLine::Move { address, node };
+    if_open!(host.change(alloc, process, &line), told => told_code(&told))
 }
 
 /// Writes how many pages moved and stayed, if a reply tells it.
@@ -124,7 +127,11 @@ fn migrate(
 ) -> u32
     ensures { HostMigrate process from.now to.now host.old result host.new bound.old bound.new }
 {
-    if_open!(host.migrate(alloc, process, from, to), told => {
+    let line = PageLine::Migrate {
+        from: *from,
+        to: *to,
+    };
+    if_open!(host.change(alloc, process, &line), told => {
         tell_shift(&told, bound);
         told_code(&told)
     })

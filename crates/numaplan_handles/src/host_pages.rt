@@ -15,7 +15,6 @@ ghost use Rattle.numaplan_handles.specs.Handles.{host_in};
 ghost use Rattle.numaplan_handles.specs.Hosted.{Binds, ChangesPages, LetsFollow, LimitsAll};
 ghost use Rattle.numaplan_handles.specs.Hosted.{CameWith, HasCome, TouchesIn};
 ghost use Rattle.numaplan_handles.specs.Hosts.{OfRunning};
-ghost use Rattle.numa_script.specs.declared.page_line.PageLine.{PageLine};
 
 use crate::flows::both_rows;
 use crate::handle::of_kept;
@@ -23,7 +22,6 @@ use crate::host_handle::HostHandle;
 use crate::kept::Kept;
 use numa_host_script::RunningHost;
 use numa_huge::HugeArrived;
-use numa_mask::NodeMask;
 use numa_page_state::arrived::untouched;
 use numa_page_state::{Arrived, Rebinding, Toucher};
 use numa_requests::PlacedRefusal;
@@ -139,25 +137,14 @@ fn touched(
 }
 
 impl HostHandle {
-    /// States that the mapped pages of a span of a process lie on a node. The reply is that of
-    /// `at`. `None` if the handle is closed.
-    pub fn place(
-        &mut self,
-        alloc: Global,
-        process: u32,
-        start: u64,
-        length: u64,
-        node: u32,
-    ) -> Option<Option<Reply>>
-        ensures { Calls (OfRunning (ChangesPages process (PageLine.At start length node)))
-            (host_in self.old) result (host_in self.new) }
+    /// Changes where pages of a process lie, as a line says: `at`, `migrate` or `move`. The reply is
+    /// that of the line. `None` if the handle is closed.
+    pub fn change(&mut self, alloc: Global, process: u32, line: &PageLine) -> Option<Option<Reply>>
+        requires change { is_change line.now ≡ true }
+        ensures { Calls (OfRunning (ChangesPages process line.now)) (host_in self.old) result
+            (host_in self.new) }
     {
-        let line = PageLine::At {
-            start,
-            length,
-            node,
-        };
-        of_kept!(self.handle, alloc, Kept::Host(running) => changed(running, alloc, process, &line))
+        of_kept!(self.handle, alloc, Kept::Host(running) => changed(running, alloc, process, line))
     }
 
     /// Touches each page of a span of a process for the first time, as a task on a CPU of node
@@ -182,41 +169,6 @@ impl HostHandle {
         of_kept!(self.handle, alloc, Kept::Host(running) => {
             touched(running, alloc, process, start, length, toucher)
         })
-    }
-
-    /// Moves pages of a process from one set of nodes to the allowed nodes of another, as far as
-    /// there is room. The reply is that of `migrate`. `None` if the handle is closed.
-    pub fn migrate(
-        &mut self,
-        alloc: Global,
-        process: u32,
-        from: &NodeMask,
-        to: &NodeMask,
-    ) -> Option<Option<Reply>>
-        ensures { Calls (OfRunning (ChangesPages process (PageLine.Migrate from.now to.now)))
-            (host_in self.old) result (host_in self.new) }
-    {
-        let line = PageLine::Migrate {
-            from: *from,
-            to: *to,
-        };
-        of_kept!(self.handle, alloc, Kept::Host(running) => changed(running, alloc, process, &line))
-    }
-
-    /// Moves the page of an address of a process to a node, if it has room. The reply is that of
-    /// `move`. `None` if the handle is closed.
-    pub fn move_page(
-        &mut self,
-        alloc: Global,
-        process: u32,
-        address: u64,
-        node: u32,
-    ) -> Option<Option<Reply>>
-        ensures { Calls (OfRunning (ChangesPages process (PageLine.Move address node)))
-            (host_in self.old) result (host_in self.new) }
-    {
-        let line = PageLine::Move { address, node };
-        of_kept!(self.handle, alloc, Kept::Host(running) => changed(running, alloc, process, &line))
     }
 
     /// Sets a policy for a span of a process, unless pages of it lie on other nodes than it asks
