@@ -89,11 +89,17 @@ given_both : (one other : Bool) (asking what : Asking)
 given_both true other asking what e = cc
 given_both false other asking what e = given_is other asking what e
 
+-- a question about files that are barred or not
+stated_is : (barred : Bool) (make : List Text → Asking) (at : List Text) (what : Asking)
+    → option_map make (cond barred None (Some at)) ≡ Some what → make at ≡ what
+stated_is true make at what e = cc
+stated_is false make at what e = some_is (make at) what e
+
 free_name : (at : List Text) (format : Format) (from : Option (List FreePages)) (what : Asking)
     → option_and_then (predict_by at format) from ≡ Some what → asking_name what ≡ codes "predict"
 free_name at format None what e = cc
 free_name at format (Some free) what e =
-    ap asking_name (sym (given_is _ (predict at format free) what e))
+    ap asking_name (sym (stated_is _ (λ stated. predict stated format free) at what e))
 
 page_name : (at : List Text) (pages : Option ℕ) (format : Format) (from : Option AddressAsked)
     (what : Asking)
@@ -123,8 +129,9 @@ work_name word.Predict rows doing e =
 work_name word.Diff rows doing e =
     asked_name (touch_in rows) (is_on (codes "lenient") rows) (is_on (codes "names") rows) _
     (codes "diff") doing
-    (λ what is. ap asking_name (sym (given_is _
-    (diff (texts_at (codes "at") rows) (texts_at (codes "then") rows) (format_in rows)) what is))) e
+    (λ what is. ap asking_name (sym (stated_is _
+    (λ stated. diff stated (texts_at (codes "then") rows) (format_in rows))
+    (texts_at (codes "at") rows) what is))) e
 work_name word.Moves rows doing e =
     freed_name (codes "moves") _ (λ free. refl) (frees_in rows) doing e
 work_name word.Explain rows doing e =

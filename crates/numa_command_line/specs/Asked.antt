@@ -85,15 +85,19 @@ abbrev pub is_page : Format → Bool
 is_page (Html number) = true
 is_page other = false
 
+-- the files that state where pages lie; none may be named where they are barred
+abbrev pub stated_unless : Bool → List Text → Option (List Text)
+stated_unless barred at = if nat_lt 0 (length at) && barred then None else Some at
+
 -- a prediction, where pages that are there stay where a file states them: no page
 abbrev pub predict_by : List Text → Format → List FreePages → Option Asking
 predict_by at format free =
-    if nat_lt 0 (length at) && is_page format then None else Some (predict at format free)
+    option_map (λ stated. predict stated format free) (stated_unless (is_page format) at)
 
 -- a difference, with what becomes of pages that are there where a file states them: no drawn one
 abbrev pub diff_by : List Text → List Text → Format → Option Asking
 diff_by at lines format =
-    if nat_lt 0 (length at) && is_drawn format then None else Some (diff at lines format)
+    option_map (λ stated. diff stated lines format) (stated_unless (is_drawn format) at)
 
 -- an explanation, of one page where a file states where pages lie that are there, or as a picture
 abbrev pub explain_by : List Text → Option ℕ → Format → AddressAsked → Option Asking

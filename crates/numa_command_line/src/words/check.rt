@@ -9,6 +9,7 @@ use crate::words::process::PROCESS;
 /// The help of the subcommand.
 static WORD: SubcommandHelp = SubcommandHelp {
     name: "check",
+    reads_lines: true,
     line: "Reports what is wrong with scripts, and what to do about it",
     about: "Reports what is wrong with scripts, and what to do about it\n\nExamples, from the \
 top of the repository:\n  ./numaplan check examples/why-refused.numaplan\n  ./numaplan check \
@@ -19,7 +20,6 @@ answer, and its cause with what to do. Lines that need a machine while none is r
 counted at the end. A binary file is reported once.\n\nOf a host's script the process of a \
 line is named too; with --process only what is wrong with the lines of process P is reported. \
 The status is 3 if anything was reported, else 0.",
-    reads_lines: true,
     arguments: &[PLAIN, PROCESS, FILES],
 };
 

@@ -1,10 +1,9 @@
 //! `numaplan diff --task T --node N --then LINE [FILE]..`: reports which pages would go elsewhere.
-ghost use Rattle.std.specs.Prelude.{codes, map};
-ghost use Rattle.std.specs.String.{string_bytes};
+ghost use Rattle.std.specs.Prelude.{codes};
 ghost use Rattle.numa_command_line.specs.Grammar.{IsReader, diff_arguments, diff_formats};
 ghost use Rattle.clap.specs.Words.{found_of, rows_of};
-ghost use Rattle.numa_command_line.specs.Asked.{diff_by, work_asked};
-ghost use Rattle.numa_command_line.specs.Jobs.{IsMade, question_of, work_of};
+ghost use Rattle.numa_command_line.specs.Asked.{work_asked};
+ghost use Rattle.numa_command_line.specs.Jobs.{IsMade, work_of};
 ghost use Rattle.numa_command_line.specs.declared.command.Subcommand.TheVariants as word;
 
 use crate::found::texts_at;
@@ -12,17 +11,30 @@ use crate::jobs::{JobFault, PageQuestion, ScriptJob};
 use crate::usage::{Argument, FILES, SubcommandHelp, Takes};
 use crate::words::asked;
 use crate::words::asked::{NODE, TASK};
-use crate::words::at::AT;
+use crate::words::at::{AT, stated_unless};
 use crate::words::format::{COMPARED, LARGEST, format_in, is_drawn};
 use crate::words::lenient::LENIENT;
 use crate::words::names::NAMES;
 use crate::words::process::PROCESS;
 use clap::ArgMatches;
-use numa_sheets::Format;
 use std::alloc::Global;
 
 /// The message for pages that are there in a picture or a page.
 const NOT_DRAWN: &str = "error: '--at <FILE>' wants '--format text' or '--format json'\n";
+
+/// The job of a command line with this subcommand.
+///
+/// # Errors
+/// `Usage`: `--node` is invalid, or `--at` or `--node` wants another format. `NoMemory`: out of
+/// memory.
+pub fn work(alloc: Global, matches: &ArgMatches<'_>) -> Result<ScriptJob, JobFault>
+    ensures { IsMade work_of (work_asked word.Diff (rows_of (found_of matches.now))) result }
+{
+    let format = format_in(matches);
+    let at = stated_unless(alloc, matches, is_drawn(format), NOT_DRAWN)?;
+    let lines = texts_at(alloc, matches, "then")?;
+    asked::work(alloc, matches, PageQuestion::Diff { at, lines, format })
+}
 
 /// The option `--then LINE`.
 const THEN: Argument = Argument {
@@ -36,6 +48,7 @@ const THEN: Argument = Argument {
 /// The help of the subcommand.
 static WORD: SubcommandHelp = SubcommandHelp {
     name: "diff",
+    reads_lines: true,
     line: "Shows which pages would go elsewhere if lines were added to scripts",
     about: "Shows which pages would go elsewhere if lines were added to scripts\n\nExamples, \
 from the top of the repository:\n  ./numaplan diff --node 0 --then 'mems 0' \
@@ -54,7 +67,6 @@ refused are reported on standard error as by `check`, and skipped. The status is
 are some, unless --lenient is given, and if no machine is ready after the scripts. If \
 neither --rules nor a line says whose rules count, and a kernel's would give another answer, \
 a line on standard error says so.",
-    reads_lines: true,
     arguments: &[
         TASK, NODE, THEN, AT, PROCESS, COMPARED, LARGEST, NAMES, LENIENT, FILES,
     ],
@@ -65,38 +77,4 @@ pub fn word() -> &'static SubcommandHelp
     ensures { IsReader (codes "diff") diff_arguments diff_formats result.now }
 {
     &WORD
-}
-
-/// The question by these options.
-fn question(
-    alloc: Global,
-    at: Vec<String>,
-    lines: Vec<String>,
-    format: Format,
-) -> Result<PageQuestion, JobFault>
-    ensures { IsMade question_of (diff_by (map string_bytes at.items)
-        (map string_bytes lines.items) format) result }
-{
-    if !at.is_empty() && is_drawn(format) {
-        drop(at);
-        drop(lines);
-        return Err(JobFault::usage(alloc, NOT_DRAWN));
-    }
-    Ok(PageQuestion::Diff { at, lines, format })
-}
-
-/// The job of a command line with this subcommand.
-///
-/// # Errors
-/// `Usage`: `--node` is invalid, or `--at` or `--node` wants another format. `NoMemory`: out of
-/// memory.
-pub fn work(alloc: Global, matches: &ArgMatches<'_>) -> Result<ScriptJob, JobFault>
-    ensures { IsMade work_of (work_asked word.Diff (rows_of (found_of matches.now))) result }
-{
-    let at = texts_at(alloc, matches, "at")?;
-    let lines = texts_at(alloc, matches, "then")?;
-    match question(alloc, at, lines, format_in(matches)) {
-        Ok(question) => asked::work(alloc, matches, question),
-        Err(fault) => Err(fault),
-    }
 }

@@ -35,6 +35,7 @@ const UPDATE: Argument = Argument {
 /// The help of the subcommand.
 static WORD: SubcommandHelp = SubcommandHelp {
     name: "expect",
+    reads_lines: true,
     line: "Compares the answers that scripts hold with those that they get",
     about: "Compares the answers that scripts hold with those that they get\n\nExamples, from \
 the top of the repository:\n  ./numaplan expect examples/*.answers\n  ./numaplan expect \
@@ -50,7 +51,6 @@ test of the Test Anything Protocol, and with --format json a line of JSON. With 
 files get the answers that their lines get, in place of those that differ: each is written \
 beside itself and then replaced, and standard output shows the lines that change.\n\nThe \
 status is 0 if each file holds answers and all are as wanted, or are written anew, else 3.",
-    reads_lines: true,
     arguments: &[TESTED, ANY_VERSION, UPDATE, WORKED],
 };
 

@@ -55,6 +55,7 @@ const PAGES: Argument = Argument {
 /// The help of the subcommand.
 static WORD: SubcommandHelp = SubcommandHelp {
     name: "explain",
+    reads_lines: true,
     line: "Explains why a page goes where it goes",
     about: "Explains why a page goes where it goes\n\nExamples, from the top of the \
 repository:\n  ./numaplan explain --node 3 0x32000 examples/interleaved-range.numaplan\n  \
@@ -76,7 +77,6 @@ draws the nodes in order, with their distances, whose turn it is, and a table of
 machine's nodes are allowed and which the policy has.\n\nLines that are \
 faulty or refused are reported on standard error as by `check`, and skipped. The status is 3 \
 if there are some, unless --lenient is given, and if no machine is ready after the scripts.",
-    reads_lines: true,
     arguments: &[
         TASK, NODE, AT, PAGES, PROCESS, DRAWN_TOO, NAMES, LENIENT, ADDRESS, FILES,
     ],

@@ -19,6 +19,27 @@ use crate::words::process::PROCESS;
 use clap::ArgMatches;
 use std::alloc::Global;
 
+/// The job of a command line with this subcommand.
+///
+/// # Errors
+/// `Usage`: `--free` is invalid. `NoMemory`: out of memory.
+pub fn work(alloc: Global, matches: &ArgMatches<'_>) -> Result<ScriptJob, JobFault>
+    ensures { IsMade work_of (work_asked word.Moves (rows_of (found_of matches.now))) result }
+{
+    let free = named(alloc, matches)?;
+    let at = texts_at(alloc, matches, "at")?;
+    let lines = texts_at(alloc, matches, "then")?;
+    Ok(ScriptJob::Moves {
+        at,
+        lines,
+        asked: one_touch_in(matches),
+        free,
+        format: format_in(matches),
+        lenient: is_on(matches, "lenient"),
+        names: is_on(matches, "names"),
+    })
+}
+
 /// The option `--task T`.
 const TASK: Argument = Argument {
     name: "task",
@@ -62,6 +83,7 @@ bytes",
 /// The help of the subcommand.
 static WORD: SubcommandHelp = SubcommandHelp {
     name: "moves",
+    reads_lines: true,
     line: "Shows what becomes of pages that are there when lines move them",
     about: "Shows what becomes of pages that are there when lines move them\n\nExamples, from \
 the top of the repository:\n  ./numaplan moves --node 0 --then 'mems 0-1' \
@@ -83,7 +105,6 @@ are reported on standard error as by `check`, and skipped. The status is 3 if th
 unless --lenient is given, and if no machine is ready after the scripts. If neither --rules \
 nor a line says whose rules count, and a kernel's would give another answer, a line on standard \
 error says so.",
-    reads_lines: true,
     arguments: &[
         AT, TASK, NODE, THEN, FREE, PROCESS, DRAWN_TOO, LARGEST, NAMES, LENIENT, FILES,
     ],
@@ -94,25 +115,4 @@ pub fn word() -> &'static SubcommandHelp
     ensures { IsReader (codes "moves") moves_arguments drawn_formats result.now }
 {
     &WORD
-}
-
-/// The job of a command line with this subcommand.
-///
-/// # Errors
-/// `Usage`: `--free` is invalid. `NoMemory`: out of memory.
-pub fn work(alloc: Global, matches: &ArgMatches<'_>) -> Result<ScriptJob, JobFault>
-    ensures { IsMade work_of (work_asked word.Moves (rows_of (found_of matches.now))) result }
-{
-    let free = named(alloc, matches)?;
-    let at = texts_at(alloc, matches, "at")?;
-    let lines = texts_at(alloc, matches, "then")?;
-    Ok(ScriptJob::Moves {
-        at,
-        lines,
-        asked: one_touch_in(matches),
-        free,
-        format: format_in(matches),
-        lenient: is_on(matches, "lenient"),
-        names: is_on(matches, "names"),
-    })
 }

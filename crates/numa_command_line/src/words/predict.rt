@@ -1,35 +1,47 @@
 //! `numaplan predict --task T --node N [--free NODE=PAGES,..] [FILE]..`: reports where pages would
 //! go after scripts.
-ghost use Rattle.std.specs.Prelude.{codes, map};
-ghost use Rattle.std.specs.String.{string_bytes};
+ghost use Rattle.std.specs.Prelude.{codes};
 ghost use Rattle.numa_command_line.specs.Grammar.{IsReader, predict_arguments};
 ghost use Rattle.numa_command_line.specs.Grammar.{predict_formats};
 ghost use Rattle.clap.specs.Words.{found_of, rows_of};
-ghost use Rattle.numa_command_line.specs.Asked.{predict_by, work_asked};
-ghost use Rattle.numa_command_line.specs.Jobs.{IsMade, question_of, work_of};
+ghost use Rattle.numa_command_line.specs.Asked.{work_asked};
+ghost use Rattle.numa_command_line.specs.Jobs.{IsMade, work_of};
 ghost use Rattle.numa_command_line.specs.declared.command.Subcommand.TheVariants as word;
 
-use crate::found::texts_at;
 use crate::jobs::{JobFault, PageQuestion, ScriptJob};
 use crate::usage::{FILES, SubcommandHelp};
+use crate::words::asked;
 use crate::words::asked::{NODE, TASK};
-use crate::words::at::AT;
+use crate::words::at::{AT, stated_unless};
 use crate::words::format::{LARGEST, PREDICTED, format_in, is_page};
-use crate::words::free::FREE;
+use crate::words::free::{FREE, named};
 use crate::words::lenient::LENIENT;
 use crate::words::names::NAMES;
 use crate::words::process::PROCESS;
-use crate::words::{asked, free};
 use clap::ArgMatches;
-use numa_sheets::{Format, FreePages};
 use std::alloc::Global;
 
 /// The message for pages that are there in a page.
 const NO_PAGE: &str = "error: '--at <FILE>' doesn't go with '--format html'\n";
 
+/// The job of a command line with this subcommand.
+///
+/// # Errors
+/// `Usage`: `--node` or `--free` is invalid, or `--at` or `--node` doesn't go with another option.
+/// `NoMemory`: out of memory.
+pub fn work(alloc: Global, matches: &ArgMatches<'_>) -> Result<ScriptJob, JobFault>
+    ensures { IsMade work_of (work_asked word.Predict (rows_of (found_of matches.now))) result }
+{
+    let format = format_in(matches);
+    let free = named(alloc, matches)?;
+    let at = stated_unless(alloc, matches, is_page(format), NO_PAGE)?;
+    asked::work(alloc, matches, PageQuestion::Predict { at, format, free })
+}
+
 /// The help of the subcommand.
 static WORD: SubcommandHelp = SubcommandHelp {
     name: "predict",
+    reads_lines: true,
     line: "Shows where pages would go after scripts, if a task touched them",
     about: "Shows where pages would go after scripts, if a task touched them\n\nExamples, \
 from the top of the repository:\n  ./numaplan predict --node 0 \
@@ -49,7 +61,6 @@ reported on standard error as by `check`, and skipped. The status is 3 if there 
 unless --lenient is given, and if no machine is ready after the scripts. If neither --rules \
 nor a line says whose rules count, and a kernel's would give another answer, a line on \
 standard error says so.",
-    reads_lines: true,
     arguments: &[
         TASK, NODE, AT, PROCESS, PREDICTED, LARGEST, FREE, NAMES, LENIENT, FILES,
     ],
@@ -60,44 +71,4 @@ pub fn word() -> &'static SubcommandHelp
     ensures { IsReader (codes "predict") predict_arguments predict_formats result.now }
 {
     &WORD
-}
-
-/// The question by these options.
-fn question(
-    alloc: Global,
-    at: Vec<String>,
-    format: Format,
-    free: Vec<FreePages>,
-) -> Result<PageQuestion, JobFault>
-    ensures { IsMade question_of
-        (predict_by (map string_bytes at.items) format free.items) result }
-{
-    if !at.is_empty() && is_page(format) {
-        drop(at);
-        drop(free);
-        return Err(JobFault::usage(alloc, NO_PAGE));
-    }
-    Ok(PageQuestion::Predict { at, format, free })
-}
-
-/// The job of a command line with this subcommand.
-///
-/// # Errors
-/// `Usage`: `--node` or `--free` is invalid, or `--at` or `--node` doesn't go with another option.
-/// `NoMemory`: out of memory.
-pub fn work(alloc: Global, matches: &ArgMatches<'_>) -> Result<ScriptJob, JobFault>
-    ensures { IsMade work_of (work_asked word.Predict (rows_of (found_of matches.now))) result }
-{
-    let at = texts_at(alloc, matches, "at")?;
-    let free = match free::named(alloc, matches) {
-        Ok(free) => free,
-        Err(fault) => {
-            drop(at);
-            return Err(fault);
-        }
-    };
-    match question(alloc, at, format_in(matches), free) {
-        Ok(question) => asked::work(alloc, matches, question),
-        Err(fault) => Err(fault),
-    }
 }

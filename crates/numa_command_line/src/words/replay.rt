@@ -18,6 +18,25 @@ use crate::words::process::PROCESS;
 use clap::ArgMatches;
 use std::alloc::Global;
 
+/// The job of a command line with this subcommand.
+///
+/// # Errors
+/// `Usage`: `--free` is invalid. `NoMemory`: out of memory.
+pub fn work(alloc: Global, matches: &ArgMatches<'_>) -> Result<ScriptJob, JobFault>
+    ensures { IsMade work_of (work_asked word.Replay (rows_of (found_of matches.now))) result }
+{
+    let free = named(alloc, matches)?;
+    let trace = texts_at(alloc, matches, "trace")?;
+    Ok(ScriptJob::Replay {
+        trace,
+        free,
+        format: format_in(matches),
+        mean: is_on(matches, "mean"),
+        ranges: is_on(matches, "ranges"),
+        lenient: is_on(matches, "lenient"),
+    })
+}
+
 /// The option `--trace TRACE`.
 const TRACE: Argument = Argument {
     name: "trace",
@@ -58,6 +77,7 @@ const RANGES: Argument = Argument {
 /// The help of the subcommand.
 static WORD: SubcommandHelp = SubcommandHelp {
     name: "replay",
+    reads_lines: true,
     line: "Shows where the accesses of a trace go after scripts",
     about: "Shows where the accesses of a trace go after scripts\n\nExamples, from the top of \
 the repository:\n  ./numaplan replay --trace examples/replayed.trace \
@@ -85,7 +105,6 @@ unless --lenient is given, if no machine is ready after the scripts, if a line o
 can't be replayed, and if pages take room and none finds any. If neither --rules nor a line \
 says whose rules count, and a kernel's would give another answer, a line on standard error \
 says so.",
-    reads_lines: true,
     arguments: &[
         TRACE, FREE, MEAN, RANGES, PROCESS, REPLAYED, LARGEST, LENIENT, FILES,
     ],
@@ -96,23 +115,4 @@ pub fn word() -> &'static SubcommandHelp
     ensures { IsReader (codes "replay") replay_arguments replay_formats result.now }
 {
     &WORD
-}
-
-/// The job of a command line with this subcommand.
-///
-/// # Errors
-/// `Usage`: `--free` is invalid. `NoMemory`: out of memory.
-pub fn work(alloc: Global, matches: &ArgMatches<'_>) -> Result<ScriptJob, JobFault>
-    ensures { IsMade work_of (work_asked word.Replay (rows_of (found_of matches.now))) result }
-{
-    let free = named(alloc, matches)?;
-    let trace = texts_at(alloc, matches, "trace")?;
-    Ok(ScriptJob::Replay {
-        trace,
-        free,
-        format: format_in(matches),
-        mean: is_on(matches, "mean"),
-        ranges: is_on(matches, "ranges"),
-        lenient: is_on(matches, "lenient"),
-    })
 }

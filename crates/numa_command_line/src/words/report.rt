@@ -39,6 +39,7 @@ const THEN: Argument = Argument {
 /// The help of the subcommand.
 static WORD: SubcommandHelp = SubcommandHelp {
     name: "report",
+    reads_lines: true,
     line: "Writes one page for a ticket: where pages would go, why, and what lines change",
     about: "Writes one page for a ticket: where pages would go, why, and what lines change\n\n\
 Example, from the top of the repository:\n  ./numaplan report --node 3 --then 'mems 0-1' \
@@ -54,7 +55,6 @@ Lines that are faulty or refused are reported on standard \
 error as by `check`, and skipped. The status is 3 if there are some, unless --lenient is given, \
 and if no machine is ready after the scripts. If neither --rules nor a line says whose rules \
 count, and a kernel's would give another answer, a line on standard error says so.",
-    reads_lines: true,
     arguments: &[TASK, NODE, THEN, PROCESS, LENIENT, FILES],
 };
 

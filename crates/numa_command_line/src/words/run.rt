@@ -17,6 +17,7 @@ const ECHO: Argument = Argument {
 /// The help of the subcommand.
 static WORD: SubcommandHelp = SubcommandHelp {
     name: "run",
+    reads_lines: true,
     line: "Answers the scripts of files, or of standard input",
     about: "Answers the scripts of files, or of standard input\n\nExamples, from the top of \
 the repository:\n  ./numaplan run examples/first-run.numaplan\n  ./numaplan run --echo \
@@ -28,7 +29,6 @@ JSON for each answer.\n\nAt a terminal, where no file is named, there is a promp
 error says what is wrong with a line, and a line `help` lists the lines. If answers stand \
 after `=>` in a script, a line on standard error says so at the end: `expect` compares \
 them.\n\ndocs/SCRIPT.md of the repository describes the language of scripts.",
-    reads_lines: true,
     arguments: &[ECHO, PLAIN, FILES],
 };
 

@@ -8,6 +8,7 @@ use crate::words::process::PROCESS;
 /// The help of the subcommand.
 static WORD: SubcommandHelp = SubcommandHelp {
     name: "shell",
+    reads_lines: true,
     line: "Answers lines as they are typed, after scripts",
     about: "Answers lines as they are typed, after scripts\n\nExample, from the top of the \
 repository:\n  ./numaplan shell examples/interleaved-range.numaplan",
@@ -16,7 +17,6 @@ with a prompt for each. What is wrong with a line is reported on standard error 
 `check`. Besides the lines of scripts it takes `predict TASK NODE`, `explain TASK ADDR NODE`, \
 `help` and `quit`; it ends with its input, too. Of a host the first two ask about all \
 processes, or after `in P` or with --process P about process P alone. The status is 0.",
-    reads_lines: true,
     arguments: &[PROCESS, FILES],
 };
 

@@ -28,6 +28,7 @@ const WORKERS: Argument = Argument {
 /// The help of the subcommand.
 static WORD: SubcommandHelp = SubcommandHelp {
     name: "storm",
+    reads_lines: false,
     line: "Lets workers place pages while policies change, and compares each placement",
     about: "Lets workers place pages while policies change, and compares each \
 placement\n\nExample, from the top of the repository:\n  ./numaplan storm --workers 4",
@@ -38,7 +39,6 @@ lines on standard output give the number of workers, of the pages that were plac
 those for which no frame was free, whether all placements match, and how many frames are held \
 at the end. The status is 0 if all is as it must be in whatever order the threads ran, else \
 1.",
-    reads_lines: false,
     arguments: &[WORKERS],
 };
 
