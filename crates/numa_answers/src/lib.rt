@@ -33,6 +33,7 @@ pub use about::{About, told_of};
 pub use answers::Answers;
 pub use comparing::{Comparing, Comparison, Updated};
 pub use page::{PageData, page_of, shared_answer, view_text};
+pub use page_head::begin_page;
 pub use pooled::{FromPools, Pooled, with_pools};
 pub use reasons::{Whereabouts, put_fields, shown, text_of};
 pub use residence::Residence;

@@ -2,7 +2,7 @@
 ghost use Rattle.std.specs.Prelude.{◌≢◌, []};
 ghost use Rattle.numa_reports.specs.Lying.{LeavesFree};
 
-use crate::page_head::head;
+use crate::page_head::put_head;
 use crate::page_script::put_script;
 use crate::stretches::stretches_text;
 use numa_reports::{
@@ -152,7 +152,7 @@ impl PageData {
 /// `AllocError`: out of memory.
 pub fn page_of(alloc: Global, kind: &str, data: &[u8]) -> Result<Vec<u8>, AllocError> {
     let mut text = Written::new(alloc);
-    text.put(head().as_bytes());
+    put_head(&mut text);
     text.put(b"{\"kind\":\"");
     text.put(kind.as_bytes());
     text.put(b"\",");

@@ -1,14 +1,17 @@
 //! The page that shows an answer in a browser: what stands before its data.
+use numa_sheets::Written;
 
-/// The part of the page before its data.
-static HEAD: &str = "\
+/// What a page begins with, up to its title.
+static START: &str = "\
 <!DOCTYPE html>
 <html lang='en'>
 <head>
 <meta charset='utf-8'>
 <meta name='viewport' content='width=device-width, initial-scale=1'>
-<title>numaplan</title>
-<style>
+<title>";
+
+/// The part of the page between its title and its data.
+static HEAD: &str = "\
 body { font: 14px sans-serif; margin: 1em 2em; color: #111; background: #fff; }
 h2 { margin: 1em 0 0.3em; font-size: 16px; }
 section { margin-top: 2em; border-top: 3px solid #333; }
@@ -59,7 +62,15 @@ pre { background: #f6f6f6; padding: 8px; max-width: 1184px; white-space: pre-wra
 <script type='application/json' id='data'>
 ";
 
-/// The part of the page before its data.
-pub(crate) fn head() -> &'static str {
-    HEAD
+/// Begins a page with a title; what comes next are the rules of its styles.
+pub fn begin_page(text: &mut Written, title: &str) {
+    text.put(START.as_bytes());
+    text.put(title.as_bytes());
+    text.put(b"</title>\n<style>\n");
+}
+
+/// Writes the part of the page before its data.
+pub(crate) fn put_head(text: &mut Written) {
+    begin_page(text, "numaplan");
+    text.put(HEAD.as_bytes());
 }

@@ -1,19 +1,12 @@
 //! A page of headings, pictures and texts, which asks no network and runs no script.
-use numa_answers::{About, told_of};
+use numa_answers::{About, begin_page, told_of};
 use numa_mask::Parts;
 use numa_sheets::{Format, Written, height_of};
 use numa_subjects::Halt;
 use std::alloc::{AllocError, Global};
 
-/// What the page begins with.
+/// What stands between its title and its links.
 static HEAD: &str = "\
-<!DOCTYPE html>
-<html lang='en'>
-<head>
-<meta charset='utf-8'>
-<meta name='viewport' content='width=device-width, initial-scale=1'>
-<title>numaplan report</title>
-<style>
 body { font: 14px sans-serif; margin: 1em 2em; max-width: 1000px; color: #111; background: #fff; }
 h1 { font-size: 20px; }
 h2 { font-size: 16px; margin: 2em 0 0.5em; padding-top: 0.5em; border-top: 2px solid #333; }
@@ -163,6 +156,7 @@ impl ReportPage {
         let rows = rows_of(alloc, about)?;
         let mut whole = Written::new(alloc);
         let links = self.links.take()?;
+        begin_page(&mut whole, "numaplan report");
         whole.put(HEAD.as_bytes());
         whole.put(links.as_slice());
         drop(links);
