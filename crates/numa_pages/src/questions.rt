@@ -112,8 +112,7 @@ fn spot_of(spot: HugeSpot) -> Spot
 fn some_stay(placed: &Placed, huge: &HugePlaces, page: u64) -> Stay
     requires near { page < 2 ^ 35 }
     ensures spot { result.spot ≡ both_spots (places_of huge.now) (spot_at placed.now) page }
-    ensures rises { page < result.end }
-    ensures within { result.end ≤ 2 ^ 35 }
+    ensures end { (page < result.end) × (result.end ≤ 2 ^ 35) }
     ensures alike { (p : ℕ) → page ≤ p → p < result.end
         → both_spots (places_of huge.now) (spot_at placed.now) p ≡ result.spot }
 {

@@ -16,7 +16,7 @@ use numa_maps::Resident;
 use numa_page_state::binding::page_count;
 use numa_page_state::huge::{huge_fault, huge_populated, is_huge_in};
 use numa_page_state::pooling::place_cause;
-use numa_page_state::{Arrived, huge_span};
+use numa_page_state::{Arrived, Toucher, huge_span};
 use numa_requests::{HugeRefusal, PAGE_BYTES, PlacedRefusal};
 use std::mem::replace;
 
@@ -67,22 +67,8 @@ impl Pages {
         ensures { Touches start length task cpu self.old result self.new }
     {
         if self.has_huge(start, length) {
-            return self.populate_both(start, length, task, cpu);
+            return self.populate_both(start, length, Toucher { task, cpu });
         }
-        self.populate_small(start, length, task, cpu)
-    }
-
-    /// Touches the pages of a span of which none has 2 MiB.
-    fn populate_small(
-        &mut self,
-        start: u64,
-        length: u64,
-        task: u32,
-        cpu: u32,
-    ) -> Result<Arrived, PlacedRefusal>
-        requires { has_huge_among (huge_in self.old) start length ≡ false }
-        ensures { Touches start length task cpu self.old result self.new }
-    {
         let none = Resident::new(self.alloc);
         let space = self.core.space();
         match self.state.populate(space, &none, start, length, task, cpu) {
@@ -96,12 +82,12 @@ impl Pages {
         &mut self,
         start: u64,
         length: u64,
-        task: u32,
-        cpu: u32,
+        toucher: Toucher,
     ) -> Result<Arrived, PlacedRefusal>
         requires { has_huge_among (huge_in self.old) start length ≡ true }
-        ensures { Touches start length task cpu self.old result self.new }
+        ensures { Touches start length toucher.task toucher.cpu self.old result self.new }
     {
+        let Toucher { task, cpu } = toucher;
         let none = Resident::new(self.alloc);
         let space = self.core.space();
         let Ok(touched) = huge_populated(space, &self.huge, start, length, task, cpu) else {

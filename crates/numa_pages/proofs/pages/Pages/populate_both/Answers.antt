@@ -11,7 +11,7 @@ use Rattle.numa_pages.proofs.pages.Pages.populate_both.Goals as goal
 
 pub returns-in_default : goal.returns-in_default
 returns-in_default c =
-    rw (← c.self.view_is) (touched-starved c.args.start c.args.length c.args.task c.args.cpu
+    rw (← c.self.view_is) (touched-starved c.args.start c.args.length c.args.toucher.task c.args.toucher.cpu
     (record { core = c.self.inside.core; state = c.self.inside.state; huge = c.self.inside.huge })
     (subst (λ (p : PagesState). has_huge_among (huge_in p) c.args.start c.args.length ≡ true)
     (sym c.self.view_is) c.requires))
@@ -23,14 +23,14 @@ arrived_in-requires-clause-placed c =
       state = c.self.inside.state;
       huge = c.self.inside.huge;
     } in
-    let touch = touch-so c.args.start c.args.length c.args.task c.args.cpu before
+    let touch = touch-so c.args.start c.args.length c.args.toucher.task c.args.toucher.cpu before
     c.space-space.result.now c.new-none.result c.space-space.ensures.space c.new-none.ensures
     c.in-Ok.touched.0 c.in-Ok.touched.1 (c.in-Ok.ensures.touched (alone (huge_in before)) refl) in
-    let does = small-so c.args.start c.args.length c.args.task c.args.cpu before
+    let does = small-so c.args.start c.args.length c.args.toucher.task c.args.toucher.cpu before
     c.space-space.result.now c.new-none.result c.space-space.ensures.space c.new-none.ensures
     c.populate_beside.new.self (Ok tt)
     (c.in-Ok-populate_beside.ensures.does (alone (huge_in before)) refl) in
-    let few = own-few c.args.start c.args.length c.args.task c.args.cpu before
+    let few = own-few c.args.start c.args.length c.args.toucher.task c.args.toucher.cpu before
     c.populate_beside.new.self c.arrived.result.now does c.arrived.ensures in
     omega (arith, few.0)
 
@@ -41,14 +41,14 @@ arrived_in-requires-clause-exhausted c =
       state = c.self.inside.state;
       huge = c.self.inside.huge;
     } in
-    let touch = touch-so c.args.start c.args.length c.args.task c.args.cpu before
+    let touch = touch-so c.args.start c.args.length c.args.toucher.task c.args.toucher.cpu before
     c.space-space.result.now c.new-none.result c.space-space.ensures.space c.new-none.ensures
     c.in-Ok.touched.0 c.in-Ok.touched.1 (c.in-Ok.ensures.touched (alone (huge_in before)) refl) in
-    let does = small-so c.args.start c.args.length c.args.task c.args.cpu before
+    let does = small-so c.args.start c.args.length c.args.toucher.task c.args.toucher.cpu before
     c.space-space.result.now c.new-none.result c.space-space.ensures.space c.new-none.ensures
     c.populate_beside.new.self (Ok tt)
     (c.in-Ok-populate_beside.ensures.does (alone (huge_in before)) refl) in
-    let few = own-few c.args.start c.args.length c.args.task c.args.cpu before
+    let few = own-few c.args.start c.args.length c.args.toucher.task c.args.toucher.cpu before
     c.populate_beside.new.self c.arrived.result.now does c.arrived.ensures in
     omega (arith, few.1)
 
@@ -59,14 +59,14 @@ arrived_in-requires-clause-on c node near =
       state = c.self.inside.state;
       huge = c.self.inside.huge;
     } in
-    let touch = touch-so c.args.start c.args.length c.args.task c.args.cpu before
+    let touch = touch-so c.args.start c.args.length c.args.toucher.task c.args.toucher.cpu before
     c.space-space.result.now c.new-none.result c.space-space.ensures.space c.new-none.ensures
     c.in-Ok.touched.0 c.in-Ok.touched.1 (c.in-Ok.ensures.touched (alone (huge_in before)) refl) in
-    let does = small-so c.args.start c.args.length c.args.task c.args.cpu before
+    let does = small-so c.args.start c.args.length c.args.toucher.task c.args.toucher.cpu before
     c.space-space.result.now c.new-none.result c.space-space.ensures.space c.new-none.ensures
     c.populate_beside.new.self (Ok tt)
     (c.in-Ok-populate_beside.ensures.does (alone (huge_in before)) refl) in
-    let few = own-few c.args.start c.args.length c.args.task c.args.cpu before
+    let few = own-few c.args.start c.args.length c.args.toucher.task c.args.toucher.cpu before
     c.populate_beside.new.self c.arrived.result.now does c.arrived.ensures in
     omega (arith, few.2 node near)
 
@@ -77,14 +77,14 @@ arrived_in-requires-clause-huge_placed c =
       state = c.self.inside.state;
       huge = c.self.inside.huge;
     } in
-    let touch = touch-so c.args.start c.args.length c.args.task c.args.cpu before
+    let touch = touch-so c.args.start c.args.length c.args.toucher.task c.args.toucher.cpu before
     c.space-space.result.now c.new-none.result c.space-space.ensures.space c.new-none.ensures
     c.in-Ok.touched.0 c.in-Ok.touched.1 (c.in-Ok.ensures.touched (alone (huge_in before)) refl) in
-    let does = small-so c.args.start c.args.length c.args.task c.args.cpu before
+    let does = small-so c.args.start c.args.length c.args.toucher.task c.args.toucher.cpu before
     c.space-space.result.now c.new-none.result c.space-space.ensures.space c.new-none.ensures
     c.populate_beside.new.self (Ok tt)
     (c.in-Ok-populate_beside.ensures.does (alone (huge_in before)) refl) in
-    let few = came-few c.args.start c.args.length c.args.task c.args.cpu before
+    let few = came-few c.args.start c.args.length c.args.toucher.task c.args.toucher.cpu before
     c.in-Ok.touched.0 c.in-Ok.touched.1 touch in
     omega (arith, few.0)
 
@@ -95,14 +95,14 @@ arrived_in-requires-clause-huge_exhausted c =
       state = c.self.inside.state;
       huge = c.self.inside.huge;
     } in
-    let touch = touch-so c.args.start c.args.length c.args.task c.args.cpu before
+    let touch = touch-so c.args.start c.args.length c.args.toucher.task c.args.toucher.cpu before
     c.space-space.result.now c.new-none.result c.space-space.ensures.space c.new-none.ensures
     c.in-Ok.touched.0 c.in-Ok.touched.1 (c.in-Ok.ensures.touched (alone (huge_in before)) refl) in
-    let does = small-so c.args.start c.args.length c.args.task c.args.cpu before
+    let does = small-so c.args.start c.args.length c.args.toucher.task c.args.toucher.cpu before
     c.space-space.result.now c.new-none.result c.space-space.ensures.space c.new-none.ensures
     c.populate_beside.new.self (Ok tt)
     (c.in-Ok-populate_beside.ensures.does (alone (huge_in before)) refl) in
-    let few = came-few c.args.start c.args.length c.args.task c.args.cpu before
+    let few = came-few c.args.start c.args.length c.args.toucher.task c.args.toucher.cpu before
     c.in-Ok.touched.0 c.in-Ok.touched.1 touch in
     omega (arith, few.1)
 
@@ -113,14 +113,14 @@ arrived_in-requires-clause-huge_on c node near =
       state = c.self.inside.state;
       huge = c.self.inside.huge;
     } in
-    let touch = touch-so c.args.start c.args.length c.args.task c.args.cpu before
+    let touch = touch-so c.args.start c.args.length c.args.toucher.task c.args.toucher.cpu before
     c.space-space.result.now c.new-none.result c.space-space.ensures.space c.new-none.ensures
     c.in-Ok.touched.0 c.in-Ok.touched.1 (c.in-Ok.ensures.touched (alone (huge_in before)) refl) in
-    let does = small-so c.args.start c.args.length c.args.task c.args.cpu before
+    let does = small-so c.args.start c.args.length c.args.toucher.task c.args.toucher.cpu before
     c.space-space.result.now c.new-none.result c.space-space.ensures.space c.new-none.ensures
     c.populate_beside.new.self (Ok tt)
     (c.in-Ok-populate_beside.ensures.does (alone (huge_in before)) refl) in
-    let few = came-few c.args.start c.args.length c.args.task c.args.cpu before
+    let few = came-few c.args.start c.args.length c.args.toucher.task c.args.toucher.cpu before
     c.in-Ok.touched.0 c.in-Ok.touched.1 touch in
     omega (arith, few.2 node near)
 
@@ -131,14 +131,14 @@ returns-in-Ok-populate_beside c =
       state = c.self.inside.state;
       huge = c.self.inside.huge;
     } in
-    let touch = touch-so c.args.start c.args.length c.args.task c.args.cpu before
+    let touch = touch-so c.args.start c.args.length c.args.toucher.task c.args.toucher.cpu before
     c.space-space.result.now c.new-none.result c.space-space.ensures.space c.new-none.ensures
     c.in-Ok.touched.0 c.in-Ok.touched.1 (c.in-Ok.ensures.touched (alone (huge_in before)) refl) in
-    let does = small-so c.args.start c.args.length c.args.task c.args.cpu before
+    let does = small-so c.args.start c.args.length c.args.toucher.task c.args.toucher.cpu before
     c.space-space.result.now c.new-none.result c.space-space.ensures.space c.new-none.ensures
     c.populate_beside.new.self (Ok tt)
     (c.in-Ok-populate_beside.ensures.does (alone (huge_in before)) refl) in
-    rw (← c.self.view_is) (touched-both c.args.start c.args.length c.args.task c.args.cpu before
+    rw (← c.self.view_is) (touched-both c.args.start c.args.length c.args.toucher.task c.args.toucher.cpu before
     (subst (λ (p : PagesState). has_huge_among (huge_in p) c.args.start c.args.length ≡ true)
     (sym c.self.view_is) c.requires)
     (record {
@@ -147,7 +147,7 @@ returns-in-Ok-populate_beside c =
       huge = c.replace.new.dest;
     }) c.arrived.result.now c.in-Ok.touched.1 c.arrived_in.result refl does
     (subst (λ (h : HugePlaced). IsTouch (touch_walk (ground_of before) c.args.start c.args.length
-    c.args.task c.args.cpu (alone (huge_in before))) h c.in-Ok.touched.1)
+    c.args.toucher.task c.args.toucher.cpu (alone (huge_in before))) h c.in-Ok.touched.1)
     (sym c.replace.ensures.after) touch) c.arrived.ensures c.arrived_in.ensures.placed
     c.arrived_in.ensures.exhausted c.arrived_in.ensures.on)
 
@@ -158,14 +158,14 @@ returns c =
       state = c.self.inside.state;
       huge = c.self.inside.huge;
     } in
-    let touch = touch-so c.args.start c.args.length c.args.task c.args.cpu before
+    let touch = touch-so c.args.start c.args.length c.args.toucher.task c.args.toucher.cpu before
     c.space-space.result.now c.new-none.result c.space-space.ensures.space c.new-none.ensures
     c.in-Ok.touched.0 c.in-Ok.touched.1 (c.in-Ok.ensures.touched (alone (huge_in before)) refl) in
-    let does = small-so c.args.start c.args.length c.args.task c.args.cpu before
+    let does = small-so c.args.start c.args.length c.args.toucher.task c.args.toucher.cpu before
     c.space-space.result.now c.new-none.result c.space-space.ensures.space c.new-none.ensures
     c.populate_beside.new.self (Err c.in-Err.why)
     (c.in-Err.ensures.does (alone (huge_in before)) refl) in
-    rw (← c.self.view_is) (touched-refused c.args.start c.args.length c.args.task c.args.cpu before
+    rw (← c.self.view_is) (touched-refused c.args.start c.args.length c.args.toucher.task c.args.toucher.cpu before
     (subst (λ (p : PagesState). has_huge_among (huge_in p) c.args.start c.args.length ≡ true)
     (sym c.self.view_is) c.requires)
     (record {
