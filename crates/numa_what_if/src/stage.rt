@@ -83,10 +83,8 @@ pub(crate) fn room_of(
 pub(crate) fn spans_of(alloc: Global, space: &Space) -> Result<Vec<PageSpan>, AllocError> {
     let mut spans = Vec::new(alloc);
     for range in space.range_iter() {
-        spans.push(PageSpan {
-            first: range.first,
-            pages: range.pages,
-        })?;
+        let (first, pages) = (range.first, range.pages);
+        spans.push(PageSpan { first, pages })?;
     }
     Ok(spans)
 }

@@ -7,14 +7,6 @@ use crate::sheet::pictures;
 use numa_mask::parts::first_place;
 use numa_sheets::{Written, height_of};
 
-/// The rows of pixels of a heading, and behind the last section.
-const HEADING: u64 = 40;
-
-const MARGIN: u64 = 16;
-
-/// The rows of pixels of the total of pages that move.
-const MOVED_ROWS: u64 = 24;
-
 /// Where in a picture of several processes a section begins, and of which process it is.
 #[derive(Clone, Copy)]
 pub(crate) struct Section {
@@ -22,6 +14,14 @@ pub(crate) struct Section {
     pub(crate) process: u32,
     pub(crate) group: u32,
 }
+
+/// The rows of pixels of a heading, and behind the last section.
+const HEADING: u64 = 40;
+
+const MARGIN: u64 = 16;
+
+/// The rows of pixels of the total of pages that move.
+const MOVED_ROWS: u64 = 24;
 
 /// A picture without its first line, which says that it is XML.
 fn without_prolog(picture: &[u8]) -> &[u8] {
