@@ -19,10 +19,10 @@ use std::marker::Model;
 /// The numbers of accesses by the ranges of their pages, and by their routes.
 #[derive(Drop)]
 pub struct RangeTallies {
-    // The first page of each range, rising.
-    firsts: Vec<u64>,
     // By routes that have the number of the range, from 1 on, in place of the task's.
     tallies: Tallies,
+    // The first page of each range, rising.
+    firsts: Vec<u64>,
 }
 
 impl Model for RangeTallies {

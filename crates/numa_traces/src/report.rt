@@ -180,29 +180,30 @@ impl<'a> Sheet<'a> {
         }
     }
 
+    /// Writes the phases between these texts, if there are marks.
+    fn say_marked(&mut self, moments: &[Moment<'_>], before: &[u8], behind: &[u8]) {
+        if moments.len() > 1 {
+            self.written.put(before);
+            self.say_phases(moments);
+            self.written.put(behind);
+        }
+    }
+
     /// Writes what was counted of one process: by phase, if there are marks, in all, and by range,
     /// if that is known.
     fn say(&mut self, moments: &[Moment<'_>], met: Option<RangesMet<'_>>) {
         let Some(last) = moments.last() else {
             return;
         };
-        let has_marks = moments.len() > 1;
         if self.has_objects() {
             self.written.put(b"{");
-            if has_marks {
-                self.written.put(b"\"phases\":[");
-                self.say_phases(moments);
-                self.written.put(b"\n],");
-            }
+            self.say_marked(moments, b"\"phases\":[", b"\n],");
             self.say_between(None, last);
             self.say_met(met);
             self.written.put(b"}\n");
             return;
         }
-        if has_marks {
-            self.say_phases(moments);
-            self.written.put(b"all phases\n");
-        }
+        self.say_marked(moments, b"", b"all phases\n");
         self.say_between(None, last);
         self.say_met(met);
     }
@@ -212,20 +213,12 @@ impl<'a> Sheet<'a> {
         let Some(last) = moments.last() else {
             return;
         };
-        let has_marks = moments.len() > 1;
         if self.has_objects() {
             self.say_between(None, last);
-            if has_marks {
-                self.written.put(b",\"phases\":[");
-                self.say_phases(moments);
-                self.written.put(b"\n]");
-            }
+            self.say_marked(moments, b",\"phases\":[", b"\n]");
             return;
         }
-        if has_marks {
-            self.say_phases(moments);
-            self.written.put(b"all phases\n");
-        }
+        self.say_marked(moments, b"", b"all phases\n");
         self.say_between(None, last);
     }
 }
