@@ -4,9 +4,9 @@
 //! scripts with theirs in other ways than [`numa_lines::Expect`], and writes them anew.
 //! [`stretches_of`] tells by which rules pages go, and [`page_of`] makes a page to explore.
 //! [`text_of`] says why a page goes where it goes, and how a page that is there comes where it
-//! lies, or what the pools have for it ([`Pooled`]), and [`shown`] gives that a form. [`with_pools`]
-//! adds to a prediction where pages of 2 MiB come from, and [`told_of`] to a picture or a page what
-//! it is of.
+//! lies, or what the pools have for it ([`Pooled`]), and [`shown`] gives that a form.
+//! [`with_pools`] adds to a prediction where pages of 2 MiB come from, and [`told_of`] to a picture
+//! or a page what it is of.
 //! [`reported`] and [`add_answer`] go on with a report, or with why there is none.
 #![tactic(auto)]
 

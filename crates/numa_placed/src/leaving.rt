@@ -39,8 +39,8 @@ pub fn departures(there: &[u64; 256], old: &NodeMask, new: &NodeMask, rooms: &mu
     Leaving { gone, to }
 }
 
-/// What a move of pages from one set of nodes to another does that never lacks room, where so many lie
-/// on each node.
+/// What a move of pages from one set of nodes to another does that never lacks room, where so many
+/// lie on each node.
 pub fn all_departures(there: &[u64; 256], old: &NodeMask, new: &NodeMask) -> Moved
     requires { (node : ℕ) → node < 256 → slice_index there.now node ≤ 2 ^ 35 }
     ensures to { AreTargets result.to (moved_node old.now new.now) }

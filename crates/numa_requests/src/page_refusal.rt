@@ -87,8 +87,8 @@ impl MoveRefusal {
 }
 
 /// Why a call about pages of 2 MiB and their pools is refused, or one about a first touch of a page
-/// of either size: the first of these that applies. Nothing has changed, but for free surplus pages,
-/// which end where a mapping is refused that had reserved some.
+/// of either size: the first of these that applies. Nothing has changed, but for free surplus
+/// pages, which end where a mapping is refused that had reserved some.
 #[derive(Clone, Copy, Debug, PartialEq, Eq)]
 pub enum HugeRefusal {
     /// The machine lacks the node.

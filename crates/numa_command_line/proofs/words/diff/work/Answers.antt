@@ -15,9 +15,9 @@ returns c =
     let lines = map string_bytes c.in_ok-lines.lines.items in
     let form = c.format_in-format.result in
     let stated = subst (λ (barred : Bool). stated_unless barred (texts_at (codes "at") rows)
-        ≡ Some files) c.is_drawn.ensures c.in_ok-at.ensures in
+    ≡ Some files) c.is_drawn.ensures c.in_ok-at.ensures in
     let asked = subst (λ (wanted : Option Asking). IsMade work_of (asked_in rows wanted)
-        c.work.result) (sym (ap (option_map (λ at. diff at lines form)) stated)) c.work.ensures in
+    c.work.result) (sym (ap (option_map (λ at. diff at lines form)) stated)) c.work.ensures in
     subst (λ (it : Format). IsMade work_of (asked_in rows (diff_by (texts_at (codes "at") rows)
     (texts_at (codes "then") rows) it)) c.work.result) c.format_in-format.ensures
     (subst (λ (more : List Text). IsMade work_of (asked_in rows (diff_by (texts_at (codes "at") rows)

@@ -17,9 +17,9 @@ returns c =
     let free = c.in_ok-free.free.items in
     let form = c.format_in-format.result in
     let stated = subst (λ (barred : Bool). stated_unless barred (texts_at (codes "at") rows)
-        ≡ Some files) c.is_page.ensures c.in_ok-at.ensures in
+    ≡ Some files) c.is_page.ensures c.in_ok-at.ensures in
     let asked = subst (λ (wanted : Option Asking). IsMade work_of (asked_in rows wanted)
-        c.work.result) (sym (ap (option_map (λ at. predict at form free)) stated)) c.work.ensures in
+    c.work.result) (sym (ap (option_map (λ at. predict at form free)) stated)) c.work.ensures in
     subst (λ (it : Format). IsMade work_of (asked_in rows (option_and_then
     (predict_by (texts_at (codes "at") rows) it) (frees_in rows))) c.work.result)
     c.format_in-format.ensures
