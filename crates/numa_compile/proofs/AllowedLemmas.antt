@@ -6,11 +6,8 @@ use Rattle.std.proofs.lemmas.List.Elements.{All-contains}
 use Rattle.numa_mask.specs.NodeSet.{has, both, members}
 use Rattle.numa_mask.proofs.Images.{below-has}
 use Rattle.numa_mask.proofs.Sets.{contains-has, members-have}
-use Rattle.numa_mode.specs.Policy.{PolicyRecord, Specification, is_live, is_local_mode, stays}
-use Rattle.numa_machine.specs.declared.rules.Rules.{Rules}
-use Rattle.numa_machine.specs.declared.rules.Rules.TheVariants.{Document, Linux}
+use Rattle.numa_mode.specs.Policy.{PolicyRecord, Specification, is_live, is_local_mode}
 use Rattle.numa_mode.specs.declared.modes.Mode.{Mode}
-use Rattle.numa_mode.specs.declared.modes.Mode.TheVariants.{Bind, Interleave, WeightedInterleave}
 use Rattle.numa_space.specs.Standing.{SpaceState}
 use Rattle.numa_space.proofs.NodeLists.{within-both, within-from_both, small-inside}
 use Rattle.numa_compile.specs.Rules.{IsReady}
@@ -21,18 +18,7 @@ pub allowed-small : (space : SpaceState) (set : ℕ) → IsReady space → both 
 allowed-small space set ready inside = small-inside set space.allowed inside
     (small-inside space.allowed space.machine.memory ready.sound.allowed_memory ready.memory)
 
--- its members are nodes of the machine
-pub node-low : (space : SpaceState) (set node : ℕ) → IsReady space → both set space.allowed ≡ set
-    → has set node ≡ true → node < space.machine.nodes
-node-low space set node ready inside member =
-    let in_memory : has space.machine.memory node ≡ true =
-    within-from_both space.allowed space.machine.memory ready.sound.allowed_memory node
-    (within-from_both set space.allowed inside node member) in
-    All-contains (λ n. n < space.machine.nodes) (members space.machine.memory) node
-    ready.of_the_machine (contains-has space.machine.memory node
-    (below-has set node (allowed-small space set ready inside) member) in_memory)
-
--- so are nodes with memory
+-- nodes with memory are nodes of the machine
 pub node-low_memory : (space : SpaceState) (set node : ℕ) → IsReady space
     → both set space.machine.memory ≡ set → has set node ≡ true → node < space.machine.nodes
 node-low_memory space set node ready inside member =
@@ -42,10 +28,15 @@ node-low_memory space set node ready inside member =
     ready.of_the_machine (contains-has space.machine.memory node
     (below-has space.machine.memory node ready.memory in_memory) in_memory)
 
-pub members-low : (space : SpaceState) (set : ℕ) → IsReady space → both set space.allowed ≡ set
-    → All (λ node. node < space.machine.nodes) (members set)
-members-low space set ready inside k d lt = node-low space set (get_or (members set) k d) ready
-    inside (members-have set k d lt)
+pub members-low_memory : (space : SpaceState) (set : ℕ) → IsReady space
+    → both set space.machine.memory ≡ set → All (λ node. node < space.machine.nodes) (members set)
+members-low_memory space set ready inside k d lt =
+    node-low_memory space set (get_or (members set) k d) ready inside (members-have set k d lt)
+
+-- a set of nodes with memory is one of nodes below 256
+pub memory-small : (space : SpaceState) (set : ℕ) → IsReady space
+    → both set space.machine.memory ≡ set → set < 2 ^ 256
+memory-small space set ready inside = small-inside set space.machine.memory inside ready.memory
 
 -- a live policy of another mode than local has a node
 pub filled : (r : PolicyRecord) → is_live r ≡ true → is_local_mode r.spec.mode ≡ false
@@ -70,30 +61,7 @@ pub all-allowed : (set allowed : ℕ) → set ≡ allowed → both set allowed �
 all-allowed set allowed same =
     within-both set allowed (λ node member. subst (λ (s : ℕ). has s node ≡ true) same member)
 
--- the set of a policy in force is one of allowed nodes, where it follows them, by the mode that was
--- read of it
-pub policy-allowed : (rules : Rules) (r : PolicyRecord) (spec : Specification) (mode other : Mode)
-    (set allowed : ℕ) → (stays rules r.spec.mode ≡ false → both r.effective allowed ≡ r.effective)
-    → spec ≡ r.spec → mode ≡ spec.mode → mode ≡ other → stays rules other ≡ false
-    → set ≡ r.effective → both set allowed ≡ set
-policy-allowed rules r spec mode other set allowed inside of read is follows same =
-    let own : r.spec.mode ≡ other = ap (λ (s : Specification). s.mode) (sym of) ∙ sym read ∙ is in
-    subst (λ (s : ℕ). both s allowed ≡ s) (sym same) (inside (ap (stays rules) own ∙ follows))
-
--- and of nodes with memory
+-- the set of a policy in force is one of nodes with memory
 pub policy-memory : (r : PolicyRecord) (set memory : ℕ) → both r.effective memory ≡ r.effective
     → set ≡ r.effective → both set memory ≡ set
 policy-memory r set memory inside same = subst (λ (s : ℕ). both s memory ≡ s) (sym same) inside
-
--- these modes follow by all rules
-pub bind-follows : (rules : Rules) → stays rules Bind ≡ false
-bind-follows Document = refl
-bind-follows Linux = refl
-
-pub interleave-follows : (rules : Rules) → stays rules Interleave ≡ false
-interleave-follows Document = refl
-interleave-follows Linux = refl
-
-pub weighted-follows : (rules : Rules) → stays rules WeightedInterleave ≡ false
-weighted-follows Document = refl
-weighted-follows Linux = refl

@@ -121,7 +121,7 @@ fixed-gives space reach from ready some inside cpu index lt = (
 
 -- the rows of a set's members, in turns
 pub turns-gives : (space : SpaceState) (set width : ℕ) (cycle : List ℕ) → IsReady space → set ≢ 0
-    → both set space.allowed ≡ set → 0 < length cycle → All (λ place. place < weight_of set) cycle
+    → 0 < length cycle → All (λ place. place < weight_of set) cycle
     → width ≡ weight_of space.allowed
     → GivesRows space.machine.nodes
     (record {
@@ -133,7 +133,7 @@ pub turns-gives : (space : SpaceState) (set width : ℕ) (cycle : List ℕ) → 
     (λ cpu index.
     near (setting_in space) (slice_index (members set) (slice_index cycle (turn_at index % length
     cycle))))
-turns-gives space set width cycle ready some inside turns below is cpu index lt =
+turns-gives space set width cycle ready some turns below is cpu index lt =
     let whole : both space.allowed space.allowed ≡ space.allowed =
     within-both space.allowed space.allowed (λ node member. member) in
     let even : (k d : ℕ) → k < length (members set)

@@ -87,7 +87,7 @@ fn turns_rule(
 ) -> Result<Rule, NoMemory>
     requires ready { IsReady space.now }
     requires some { set.now ≢ 0 }
-    requires allowed { both set.now space.now.allowed ≡ set.now }
+    requires memory { both set.now space.now.machine.memory ≡ set.now }
     requires cycle { 0 < length cycle.items }
     requires places { All (λ place. place < weight_of set.now) cycle.items }
     ensures { IfOk result (λ rule. GivesRows space.now.machine.nodes rule (λ cpu index.
@@ -103,7 +103,7 @@ fn turns_rule(
 fn interleave_rule(alloc: Global, space: &Space, set: &NodeMask) -> Result<Rule, NoMemory>
     requires ready { IsReady space.now }
     requires some { set.now ≢ 0 }
-    requires allowed { both set.now space.now.allowed ≡ set.now }
+    requires memory { both set.now space.now.machine.memory ≡ set.now }
     ensures { IfOk result (λ rule. GivesRows space.now.machine.nodes rule
         (λ cpu index. near (setting_in space.now) (interleave_node set.now (turn_at index)))) }
 {
@@ -115,7 +115,7 @@ fn interleave_rule(alloc: Global, space: &Space, set: &NodeMask) -> Result<Rule,
 fn weighted_rule(alloc: Global, space: &Space, set: &NodeMask) -> Result<Rule, NoMemory>
     requires ready { IsReady space.now }
     requires some { set.now ≢ 0 }
-    requires allowed { both set.now space.now.allowed ≡ set.now }
+    requires memory { both set.now space.now.machine.memory ≡ set.now }
     ensures { IfOk result (λ rule. GivesRows space.now.machine.nodes rule
         (λ cpu index. near (setting_in space.now)
         (weighted_node (weight_at space.now.weights) set.now (turn_at index)))) }
@@ -179,7 +179,10 @@ pub(crate) fn rule_of(alloc: Global, space: &Space, policy: &Record) -> Result<R
         Mode::Default => rule_by_home(alloc, space, near, policy.home()),
         Mode::Local => rule_by_home(alloc, space, near, policy.home()),
         Mode::Preferred => preferred_rule(alloc, space, &set),
-        Mode::Bind => rule_by_home(alloc, space, Reach::Only(set), policy.home()),
+        Mode::Bind => {
+            let keeps = space.usable(&set);
+            rule_by_home(alloc, space, Reach::Only(keeps), policy.home())
+        }
         Mode::PreferredMany => many_rule(alloc, space, policy),
         Mode::Interleave => interleave_rule(alloc, space, &set),
         Mode::WeightedInterleave => weighted_rule(alloc, space, &set),

@@ -23,7 +23,9 @@ pub use fault::{MachineFault, WeightError};
 pub use frame::Frame;
 pub use machine::Machine;
 pub use no_memory::NoMemory;
-pub use page_size::{PageSize, is_inside, is_part, parts_left, round_of, turn_at};
+pub use page_size::{
+    PageSize, is_inside, is_part, is_shared, parts_left, round_of, shared_turn, turn_at,
+};
 pub use refusal::PlaceRefusal;
 pub use rules::Rules;
 pub use weights::Weights;

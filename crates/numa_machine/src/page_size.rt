@@ -3,13 +3,21 @@
 //! Pages and their indexes are counted in 4 KiB whatever the size of a page. Those of pages of 4
 //! KiB have the indexes below 2^36, from the offset of their mapping on. A page of 2 MiB is 512
 //! parts of 4 KiB in a row, which have the indexes from 2^36 on; so pages of two sizes never have
-//! consecutive indexes.
+//! consecutive indexes. From 2^37 on are the indexes of pages of shared objects, 2^36 for each: which
+//! object, and the number of its inode plus the page's place in it.
 ghost use Rattle.std.specs.Prelude.{◌≡◌, ◌+◌, ◌%◌, ◌==◌, ◌<◌, ◌≤◌, ◌^◌, ℕ};
 ghost use Rattle.numa_machine.specs.Sizes.{bytes_of, index_in, is_huge, is_inside, is_part};
-ghost use Rattle.numa_machine.specs.Sizes.{parts_in, parts_left, round_of, turn_at, whole};
+ghost use Rattle.numa_machine.specs.Sizes.{is_shared, parts_in, parts_left, round_of, shared_turn};
+ghost use Rattle.numa_machine.specs.Sizes.{turn_at, turns_left, whole};
 
 /// The index of the first part of the first page of 2 MiB of a mapping whose offset is 0.
 const FIRST_HUGE: u64 = 1 << 36;
+
+/// The first index of the pages of shared objects.
+const FIRST_SHARED: u64 = 1 << 37;
+
+/// The number of indexes of a shared object.
+const SHARED: u64 = 1 << 36;
 
 /// The bytes of a page of 4 KiB.
 const SMALL_BYTES: u64 = 4_096;
@@ -98,7 +106,26 @@ impl PageSize {
 pub fn is_part(index: u64) -> bool
     ensures { result ≡ is_part index }
 {
-    index >= FIRST_HUGE
+    FIRST_HUGE <= index && index < FIRST_SHARED
+}
+
+/// Whether an index is that of a page of a shared object.
+#[tactic(auto, unfolding(crate::specs::Sizes::is_shared))]
+#[inline(always)]
+pub fn is_shared(index: u64) -> bool
+    ensures { result ≡ is_shared index }
+{
+    FIRST_SHARED <= index
+}
+
+/// The turn of a page of a shared object: the number of the object's inode plus the page's place.
+#[tactic(auto, unfolding(crate::specs::Sizes::shared_turn))]
+#[inline(always)]
+pub fn shared_turn(index: u64) -> u64
+    ensures turn { result ≡ shared_turn index }
+    ensures few { result < 2 ^ 36 }
+{
+    index.saturating_sub(FIRST_SHARED) % SHARED
 }
 
 /// Whether the border before the page with this index lies inside a page of 2 MiB.
@@ -109,18 +136,36 @@ pub fn is_inside(index: u64) -> bool
     is_part(index) && index % PARTS != 0
 }
 
-/// The turn of an index, where nodes take turns: the index itself, or of a part of a page of 2 MiB
-/// the number of such pages before it, so that all parts of a page have one turn.
+/// The turn of an index, where nodes take turns: the index itself; of a part of a page of 2 MiB the
+/// number of such pages before it, so that all parts of a page have one turn; of a page of a shared
+/// object the number of the inode plus the page's place.
 #[tactic(auto, unfolding(crate::specs::Sizes::turn_at))]
 #[inline(always)]
 pub fn turn_at(index: u64) -> u64
     ensures { result ≡ turn_at index }
 {
     if is_part(index) {
-        (index - FIRST_HUGE) / PARTS
-    } else {
-        index
+        return index.saturating_sub(FIRST_HUGE) / PARTS;
     }
+    if is_shared(index) {
+        return shared_turn(index);
+    }
+    index
+}
+
+/// How many indexes from this one on have turns that go on by one, from page to page or from 512
+/// parts to 512.
+#[tactic(auto, unfolding(crate::specs::Sizes::turns_left))]
+fn turns_left(index: u64) -> u64
+    ensures { result ≡ turns_left index }
+{
+    if is_part(index) {
+        return FIRST_SHARED.saturating_sub(index);
+    }
+    if is_shared(index) {
+        return SHARED - shared_turn(index);
+    }
+    FIRST_HUGE.saturating_sub(index)
 }
 
 /// Of `pages` pages with the indexes from `index` on, after how many their turns come again, if
@@ -129,13 +174,13 @@ pub fn turn_at(index: u64) -> u64
 pub fn round_of(turns: u64, index: u64, pages: u64) -> u64
     ensures { result ≡ round_of turns index pages }
 {
+    if pages > turns_left(index) {
+        return pages;
+    }
     if is_part(index) {
         return turns.saturating_mul(PARTS).min(pages);
     }
-    if index.saturating_add(pages) <= FIRST_HUGE {
-        return turns.min(pages);
-    }
-    pages
+    turns.min(pages)
 }
 
 /// How many pages with the indexes from this one on have one turn: of a page of 2 MiB the parts

@@ -4,7 +4,7 @@
 -- specification. The nodes that count are those of its effective set, which follows from the mask
 -- and from the nodes that the task is allowed, when the policy is set and at each change of the
 -- allowed nodes. A policy with its effective set is a record; a range's record may also have a home
--- node.
+-- node. That of places of a shared object follows no change, and has none.
 --
 -- DEFAULT (0) requests no policy: it removes the current one, so no record has it. It takes no
 -- nodes; one flag is taken and forgotten.
@@ -63,11 +63,12 @@ pub record Specification : Type 0 where
   pub flag : NodeFlag
   pub mask : ℕ
 
--- a policy in force
+-- a policy in force, of a range or a task, or of places of a shared object
 pub record PolicyRecord : Type 0 where
   pub spec : Specification
   pub effective : ℕ
   pub home : Option ℕ
+  pub of_object : Bool
 
 -- ---- specifications
 
@@ -247,11 +248,24 @@ effect_after rules spec effective old new =
 
 abbrev pub record_when_set : Specification → ℕ → PolicyRecord
 record_when_set spec allowed =
-    record { spec = spec; effective = effect_when_set spec allowed; home = None }
+    record {
+      spec = spec;
+      effective = effect_when_set spec allowed;
+      home = None;
+      of_object = false;
+    }
+
+-- an object's policy is never rebound
+abbrev pub set_after : Rules → PolicyRecord → ℕ → ℕ → ℕ
+set_after rules r old new = if r.of_object then r.effective
+    else effect_after rules r.spec r.effective old new
 
 abbrev pub record_after : Rules → PolicyRecord → ℕ → ℕ → PolicyRecord
-record_after rules r old new =
-    record r { effective = effect_after rules r.spec r.effective old new }
+record_after rules r old new = record r { effective = set_after rules r old new }
+
+-- the policy as one of places of a shared object
+abbrev pub for_object : PolicyRecord → PolicyRecord
+for_object r = record { spec = r.spec; effective = r.effective; home = None; of_object = true }
 
 -- whether a policy counts: it has nodes, or needs none
 abbrev pub is_live : PolicyRecord → Bool
@@ -264,7 +278,7 @@ mode_takes_home _ = false
 
 -- whether a home node can be given
 abbrev pub takes_home : PolicyRecord → Bool
-takes_home r = mode_takes_home r.spec.mode
+takes_home r = not r.of_object && mode_takes_home r.spec.mode
 
 abbrev pub with_home : PolicyRecord → ℕ → PolicyRecord
 with_home r node = record r { home = Some node }

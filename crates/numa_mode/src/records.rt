@@ -3,7 +3,7 @@ ghost use Rattle.std.specs.Prelude.{◌≡◌, ◌≢◌, true, false, is_ok, is
 ghost use Rattle.std.specs.Prelude.{IfOk, IfSome, IsTrue, ◌↔◌};
 ghost use Rattle.numa_mode.specs.Policy.{is_default, is_preferred, is_local, is_live};
 ghost use Rattle.numa_mode.specs.Policy.{record_when_set, record_after, takes_home, with_home};
-ghost use Rattle.numa_mode.specs.Policy.{policy_text, stays};
+ghost use Rattle.numa_mode.specs.Policy.{for_object, policy_text, set_after, stays};
 ghost use Rattle.numa_mode.specs.Within.{IsWithin, IsAtMostOne};
 
 use crate::effects::{effect, effect_after};
@@ -21,12 +21,14 @@ pub struct NodesNotAllowed;
 /// A policy in force: its specification, its effective set, and the home node of its range, if one
 /// was set.
 ///
-/// Two records are equal if all three parts are. That includes requested nodes that aren't allowed.
+/// Two records are equal if all parts are. That includes requested nodes that aren't allowed, and
+/// whether it is the policy of places of a shared object.
 #[derive(Clone, Copy, Debug, PartialEq, Eq, Hash)]
 pub struct Record {
     spec: PolicySpec,
     effective: NodeMask,
     home: Option<u8>,
+    of_object: bool,
 }
 
 impl Model for Record {
@@ -34,12 +36,26 @@ impl Model for Record {
 
     ghost Value = { PolicyRecord };
 
-    ghost view = { λ a. record { spec = a.spec; effective = a.effective; home = a.home } };
+    ghost view = { λ a. record {
+      spec = a.spec;
+      effective = a.effective;
+      home = a.home;
+      of_object = a.of_object;
+    } };
 
-    ghost invariant = { λ a.
-        IsStanding (record { spec = a.spec; effective = a.effective; home = a.home }) };
+    ghost invariant = { λ a. IsStanding (record {
+      spec = a.spec;
+      effective = a.effective;
+      home = a.home;
+      of_object = a.of_object;
+    }) };
 
-    ghost inverse = { λ s. record { spec = s.spec; effective = s.effective; home = s.home } };
+    ghost inverse = { λ s. record {
+      spec = s.spec;
+      effective = s.effective;
+      home = s.home;
+      of_object = s.of_object;
+    } };
 }
 
 impl Record {
@@ -59,6 +75,7 @@ impl Record {
             spec,
             effective: effect(&spec, allowed, allowed.weight()),
             home: None,
+            of_object: false,
         };
         if record.is_live() {
             Ok(record)
@@ -71,22 +88,57 @@ impl Record {
     /// effective set is derived again from the requested nodes, and without one the current nodes
     /// move, as the kernel's bitmap_remap moves bits. By the kernel's rules `Preferred` and
     /// `PreferredMany` stay as they are, and all of `new` replace a set that would be empty. The
-    /// home node stays, allowed or not.
+    /// home node stays, allowed or not. The policy of places of a shared object never changes.
     ///
     /// `new` isn't empty.
     pub fn rebind(&self, rules: Rules, old: &NodeMask, new: &NodeMask) -> Record
         requires some { new.now ≢ 0 }
         ensures rebind { result ≡ record_after rules self.now old.now new.now }
-        ensures within { stays rules self.now.spec.mode ≡ false
+        ensures within { self.now.of_object ≡ false → stays rules self.now.spec.mode ≡ false
             → IsWithin self.now.effective old.now → IsWithin result.effective new.now }
     {
-        let spec = self.spec;
-        let size = new.weight();
         Record {
-            spec,
-            effective: effect_after(rules, &spec, &self.effective, old, new, size),
+            spec: self.spec,
+            effective: self.set_after(rules, old, new),
             home: self.home,
+            of_object: self.of_object,
         }
+    }
+
+    /// The effective set after such a change.
+    fn set_after(&self, rules: Rules, old: &NodeMask, new: &NodeMask) -> NodeMask
+        requires some { new.now ≢ 0 }
+        ensures after { result ≡ set_after rules self.now old.now new.now }
+        ensures within { self.now.of_object ≡ false → stays rules self.now.spec.mode ≡ false
+            → IsWithin self.now.effective old.now → IsWithin result new.now }
+        ensures preferred { is_preferred self.now.spec ≡ true → IsAtMostOne result }
+        ensures local { is_local self.now.spec ≡ true → result ≡ 0 }
+    {
+        if self.of_object {
+            return self.effective;
+        }
+        let size = new.weight();
+        effect_after(rules, &self.spec, &self.effective, old, new, size)
+    }
+
+    /// The policy as one of places of a shared object, where changes of the allowed nodes don't
+    /// change it, and it has no home node.
+    pub fn for_object(self) -> Record
+        ensures { result ≡ for_object self }
+    {
+        Record {
+            spec: self.spec,
+            effective: self.effective,
+            home: None,
+            of_object: true,
+        }
+    }
+
+    /// Whether it is the policy of places of a shared object.
+    pub fn is_of_object(&self) -> bool
+        ensures { result ≡ self.now.of_object }
+    {
+        self.of_object
     }
 
     /// Whether the policy is live: it has a node, or is `Local`, which needs none. If it isn't, the
@@ -98,23 +150,27 @@ impl Record {
     }
 
     /// The record with this home node, as set by set_mempolicy_home_node(2), instead of any other.
-    /// `None` if the mode takes none: all but `Bind` and `PreferredMany`. The node need not be
-    /// allowed.
+    /// `None` if the mode takes none: all but `Bind` and `PreferredMany`; and for the policy of
+    /// places of a shared object. The node need not be allowed.
     pub fn with_home(self, node: u8) -> Option<Record>
         ensures takes { is_some result ≡ takes_home self }
         ensures home { IfSome result (λ r. r ≡ with_home self node) }
     {
+        if self.of_object {
+            return None;
+        }
         match self.spec.mode() {
             Mode::Bind | Mode::PreferredMany => Some(Record {
                 spec: self.spec,
                 effective: self.effective,
                 home: Some(node),
+                of_object: false,
             }),
             _ => None,
         }
     }
 
-    /// Whether both have the same specification, effective set and home node: the same as `==`.
+    /// Whether both are equal: the same as `==`.
     pub fn is_same(&self, other: &Record) -> bool
         ensures { IsTrue result ↔ (self.now ≡ other.now) }
     {

@@ -1,6 +1,6 @@
 -- Worked examples: where the pages of a span go that a task touches first, and the rooms behind
 -- them.
-use Rattle.std.proofs.Common.{◌≡◌, ℕ, List, [], ◌∷◌, map, Some, None, refl}
+use Rattle.std.proofs.Common.{◌≡◌, ℕ, List, [], ◌∷◌, map, Some, None, refl, false}
 use Rattle.std.specs.Prelude.{◌==◌, ◌%◌, if◌then◌else◌}
 use Rattle.std.specs.List.{range_with_len}
 use Rattle.numa_mask.specs.NodeSet.{members}
@@ -26,8 +26,15 @@ space = record {
   version = 2;
   allowed = 3;
   ranges = record { first = 4; pages = 6; index = 0; value = None } ∷ [];
-  tasks =
-      (1, record { spec = asked Interleave Plain (0 ∷ 1 ∷ []); effective = 3; home = None }) ∷ [];
+  tasks = (
+    1,
+    record {
+      spec = asked Interleave Plain (0 ∷ 1 ∷ []);
+      effective = 3;
+      home = None;
+      of_object = false;
+    },
+  ) ∷ [];
   weights = record { nodes = 2; weights = [] };
 }
 

@@ -51,7 +51,7 @@ fn range_of(space: &Space, page: u64) -> Option<Run<RangeRecord>>
     ensures low { IfSome result (λ range. range.first ≤ page) }
     ensures high { IfSome result (λ range. page < end_of range) }
     ensures end { IfSome result (λ range. end_of range ≤ 2 ^ 35) }
-    ensures last { IfSome result (λ range. range.index + range.pages ≤ 2 ^ 37) }
+    ensures last { IfSome result (λ range. range.index + range.pages ≤ 2 ^ 48) }
     ensures pages { IfSome result (λ range. (p : ℕ) → range.first ≤ p → p < end_of range
         → page_at space.now.ranges p ≡ Some (range.index + (p - range.first), range.value)) }
 {

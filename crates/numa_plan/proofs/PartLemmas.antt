@@ -7,8 +7,9 @@ use Rattle.std.proofs.lemmas.Bool.Decides.{eqb_tells}
 use Rattle.std.proofs.lemmas.List.{get_or-set_same, get_or-set_other}
 use Rattle.std.proofs.lemmas.List.Sums.{count_by-le-length}
 use Rattle.numa_lanes.specs.Spans.{node_count}
-use Rattle.numa_machine.specs.Sizes.{is_part, turn_at}
-use Rattle.numa_machine.proofs.Sizes.{part-end, turn-huge, turn-small}
+use Rattle.numa_machine.specs.Sizes.{is_part, shared_turn, turn_at}
+use Rattle.numa_machine.proofs.Sizes.{part-end, shared-later, turn-huge, turn-shared}
+use Rattle.numa_machine.proofs.Sizes.{turn-small}
 use Rattle.numa_ranges.specs.Counts.{count_pages}
 use Rattle.numa_ranges.proofs.Counted.{count-split}
 use Rattle.numa_plan.proofs.CountLemmas.{again, count-cycle, count-empty, rounds, shift, turn_is}
@@ -105,17 +106,27 @@ module _ (cycle : List ℕ) (node : ℕ) where
       shift part_is (turn_is cycle node) index index pages (λ k lt.
       ap (turn_is cycle node) (turn-small (index + k) (omega (arith, low, lt))))
 
+  -- the turns of a shared object's pages go on by one from the first
+  pub count-shared : (index pages : ℕ) → 2 ^ 37 ≤ index → shared_turn index + pages ≤ 2 ^ 36
+      → count_pages part_is index pages
+      ≡ count_pages (turn_is cycle node) (shared_turn index) pages
+  count-shared index pages high low =
+      shift part_is (turn_is cycle node) index (shared_turn index) pages (λ k lt.
+      ap (turn_is cycle node) (shared-later index k high (omega (arith, low, lt))
+      ∙ ap (λ (n : ℕ). n + k) (turn-shared index high)))
+
   -- the same test of the place behind the first of the parts
   abbrev place_is : ℕ → Bool
   place_is place = turn_is cycle node (place / 512)
 
-  place-shift : (index pages : ℕ) → 2 ^ 36 ≤ index
+  place-shift : (index pages : ℕ) → 2 ^ 36 ≤ index → index + pages ≤ 2 ^ 37
       → count_pages part_is index pages ≡ count_pages place_is (index - 2 ^ 36) pages
-  place-shift index pages high =
+  place-shift index pages high low =
       shift part_is place_is index (index - 2 ^ 36) pages (λ k lt.
       let place : index + k - 2 ^ 36 ≡ index - 2 ^ 36 + k = omega (arith, high) in
       ap (turn_is cycle node)
-      (turn-huge (index + k) (omega (arith, high)) ∙ ap (λ (n : ℕ). n / 512) place))
+      (turn-huge (index + k) (omega (arith, high)) (omega (arith, low, lt))
+      ∙ ap (λ (n : ℕ). n / 512) place))
 
   place-again : (k : ℕ) → place_is (512 * length cycle + k) ≡ place_is k
   place-again k =
@@ -123,12 +134,12 @@ module _ (cycle : List ℕ) (node : ℕ) where
       ap (turn_is cycle node) later ∙ again cycle node (k / 512)
 
   -- whole rounds by multiplication, and the rest
-  pub count-rounds : (index pages times : ℕ) → is_part index ≡ true
+  pub count-rounds : (index pages times : ℕ) → is_part index ≡ true → index + pages ≤ 2 ^ 37
       → times * length cycle * 512 ≤ pages
       → count_pages part_is index pages ≡ times * 512 * node_count node cycle
       + count_pages part_is (index + times * length cycle * 512)
       (pages - times * length cycle * 512)
-  count-rounds index pages times part within =
+  count-rounds index pages times part last within =
       let n : ℕ = 512 * length cycle in
       let high : 2 ^ 36 ≤ index = part-end index part in
       let done : n * times ≡ times * length cycle * 512 = products (length cycle) times in
@@ -145,7 +156,7 @@ module _ (cycle : List ℕ) (node : ℕ) where
       let all : times * count_pages place_is 0 n ≡ times * 512 * node_count node cycle =
       ap (λ (k : ℕ). times * k) one ∙ sym (mul_assoc times 512 (node_count node cycle)) in
       split
-      ∙ (λ i. (place-shift index (n * times) high ∙ whole ∙ all) i
+      ∙ (λ i. (place-shift index (n * times) high (omega (arith, done, within, last)) ∙ whole ∙ all) i
       + count_pages part_is (index + done i) (pages - done i))
 
   -- whole rounds fit where all pages do
@@ -178,3 +189,14 @@ cycled-small cycle out index low cycled k lt =
     cycled k lt
     ∙ ap (λ (n : ℕ). get_or cycle (n % length cycle) 0)
     (sym (turn-small (index + k) (omega (arith, low, lt))))
+
+pub cycled-shared : (cycle out : List ℕ) (index start : ℕ) → 2 ^ 37 ≤ index
+    → start ≡ shared_turn index → shared_turn index + length out ≤ 2 ^ 36
+    → ((k : ℕ) → k < length out → get_or out k 0 ≡ get_or cycle ((start + k) % length cycle) 0)
+    → (k : ℕ) → k < length out → get_or out k 0 ≡ get_or cycle (turn_at (index + k) % length cycle)
+    0
+cycled-shared cycle out index start high is low cycled k lt =
+    let turn : start + k ≡ turn_at (index + k) =
+    ap (λ (n : ℕ). n + k) (is ∙ sym (turn-shared index high))
+    ∙ sym (shared-later index k high (omega (arith, low, lt))) in
+    cycled k lt ∙ ap (λ (n : ℕ). get_or cycle (n % length cycle) 0) turn

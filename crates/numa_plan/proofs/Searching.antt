@@ -137,7 +137,7 @@ part_found runs page low far found apart some h part =
     get_or_default runs (low - 1) _ _ (omega (arith, h.within)) in
     let own : IsPartOf run far found = part blank in
     let first : run.first + far ≡ page = h.lies blank some in
-    let bounds : (end_of run ≤ 2 ^ 35) × (run.index + run.pages ≤ 2 ^ 37) =
+    let bounds : (end_of run ≤ 2 ^ 35) × (run.index + run.pages ≤ 2 ^ 48) =
     apart-bounds 0 runs (low - 1) blank apart (omega (arith, h.within)) in
     record {
       some = own.some;

@@ -18,7 +18,7 @@ pub record IsPartOf (run : Run (Option ℕ)) (far : ℕ) (found : Found) : Type 
 -- run's rule
 pub record IsAt (runs : List (Run (Option ℕ))) (page : ℕ) (found : Found) : Type 0 where
   pub some : 0 < found.left
-  pub few : found.index + found.left ≤ 2 ^ 37
+  pub few : found.index + found.left ≤ 2 ^ 48
   pub low : page + found.left ≤ 2 ^ 35
   pub each : (q : ℕ) → q < found.left → page_at runs (page + q) ≡ Some (found.index + q, found.rule)
 

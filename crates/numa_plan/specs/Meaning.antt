@@ -83,7 +83,7 @@ place_refusal plan page cpu = if nat_le plan.nodes cpu then Some BadCpu
 -- what is kept of the run that was found last: so many pages from this one on have the indexes from
 -- this one on, and the rule is theirs
 pub record IsNear (plan : PlanData) (task page : ℕ) (found : Found) (rule : RuleData) : Type 0 where
-  pub few : found.index + found.left ≤ 2 ^ 37
+  pub few : found.index + found.left ≤ 2 ^ 48
   pub low : page + found.left ≤ 2 ^ 35
   pub each : (q : ℕ) → q < found.left → page_at plan.runs (page + q)
       ≡ Some (found.index + q, found.rule)

@@ -132,7 +132,7 @@ impl<'a> RunInPlace<'a> {
     /// shorter.
     #[inline(always)]
     pub(crate) fn found(&self, far: u64) -> Option<Found>
-        requires { self.now.index + self.now.pages ≤ 2 ^ 37 }
+        requires { self.now.index + self.now.pages ≤ 2 ^ 48 }
         ensures { MatchOption result (self.now.pages ≤ far)
             (λ found. IsPartOf self.now far found) }
     {

@@ -172,7 +172,7 @@ impl Rule {
     /// Writes the first node of the row for each of the indexes from this one on.
     pub(crate) fn fill(&self, cpu: u32, index: u64, out: &mut [u8])
         requires rows { (k : ℕ) → HasRow self.now (row_number self.now cpu k) }
-        requires index { index < 2 ^ 37 }
+        requires index { index < 2 ^ 48 }
         ensures { EachIndex out.new (λ k.
             slice_index out.new k ≡ first_of self.now cpu (index + k)) }
     {
@@ -187,7 +187,7 @@ impl Rule {
     /// the indexes from `index` on.
     pub(crate) fn count(&self, cpu: u32, index: u64, pages: u64, counts: &mut Tally)
         requires rows { (k : ℕ) → HasRow self.now (row_number self.now cpu k) }
-        requires last { index + pages ≤ 2 ^ 37 }
+        requires last { index + pages ≤ 2 ^ 48 }
         requires room { HasRoom counts.old (λ _. pages) }
         ensures { Adds counts.old counts.new (λ node.
             count_pages (λ k. first_of self.now cpu k == node) index pages) }

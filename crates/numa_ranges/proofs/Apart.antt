@@ -47,7 +47,7 @@ module _ {T : Type 0} where
   -- the bounds of one run
   pub apart-bounds : (from : ℕ) (runs : List (Run T)) (i : ℕ) (d : Run T) → AreApart from runs
       → i < length runs → (end_of (get_or runs i d) ≤ 2 ^ 35)
-      × ((get_or runs i d).index + (get_or runs i d).pages ≤ 2 ^ 37)
+      × ((get_or runs i d).index + (get_or runs i d).pages ≤ 2 ^ 48)
   apart-bounds from [] i d apart l = absurd (omega arith)
   apart-bounds from (run ∷ runs) zero d apart l = (apart-top (end_of run) runs apart.3, apart.2)
   apart-bounds from (run ∷ runs) (suc i) d apart l = apart-bounds (end_of run) runs i d apart.3
@@ -120,9 +120,9 @@ module _ {T : Type 0} where
       outside)
 
   pub run-bounds : (runs : List (Run T)) (i : ℕ) (run : Run T) → AreApart 0 runs → i < length runs
-      → run ≡ get_or runs i run → (end_of run ≤ 2 ^ 35) × (run.index + run.pages ≤ 2 ^ 37)
+      → run ≡ get_or runs i run → (end_of run ≤ 2 ^ 35) × (run.index + run.pages ≤ 2 ^ 48)
   run-bounds runs i run apart l is =
-      subst (λ (r : Run T). (end_of r ≤ 2 ^ 35) × (r.index + r.pages ≤ 2 ^ 37)) (sym is)
+      subst (λ (r : Run T). (end_of r ≤ 2 ^ 35) × (r.index + r.pages ≤ 2 ^ 48)) (sym is)
       (apart-bounds 0 runs i run apart l)
 
   -- a run says what its pages are

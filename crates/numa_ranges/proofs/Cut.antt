@@ -170,7 +170,7 @@ module _ {T : Type 0} where
   apart-lower low from (run ∷ runs) le apart = (omega (arith, apart.0), apart.1, apart.2, apart.3)
 
   apart-part_from : (from cut : ℕ) (run : Run T) (rest : List (Run T)) → from ≤ end_of run
-      → from ≤ max cut run.first → 0 < run.pages → run.index + run.pages ≤ 2 ^ 37
+      → from ≤ max cut run.first → 0 < run.pages → run.index + run.pages ≤ 2 ^ 48
       → AreApart (end_of run) rest → AreApart from (part_from cut run ++ rest)
   apart-part_from from cut run rest le low some_pages index after =
       elim (cases_lt cut (end_of run)) [
@@ -188,7 +188,7 @@ module _ {T : Type 0} where
 
   apart-part_within : (from first end : ℕ) → first ≤ end
       → (edit : T → Option T) (run : Run T) (rest : List (Run T)) → from ≤ max first run.first
-      → from ≤ end_of run → 0 < run.pages → run.index + run.pages ≤ 2 ^ 37
+      → from ≤ end_of run → 0 < run.pages → run.index + run.pages ≤ 2 ^ 48
       → AreApart (end_of run) rest
       → AreApart from (part_within first end edit run ++ (part_from end run ++ rest))
   apart-part_within from first end le edit run rest low below some index after =
@@ -221,7 +221,7 @@ module _ {T : Type 0} where
 
   apart-parts : (from first end : ℕ) → first ≤ end
       → (edit : T → Option T) (run : Run T) (rest : List (Run T)) → from ≤ run.first → 0 < run.pages
-      → run.index + run.pages ≤ 2 ^ 37 → AreApart (end_of run) rest
+      → run.index + run.pages ≤ 2 ^ 48 → AreApart (end_of run) rest
       → AreApart from
       (part_before first run ++ (part_within first end edit run ++ (part_from end run ++ rest)))
   apart-parts from first end le edit run rest low some index after =

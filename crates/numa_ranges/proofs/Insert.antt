@@ -76,7 +76,7 @@ module _ {T : Type 0} where
       (omega arith, apart.1, apart.2, apart.3)
 
   pub apart-inserted : (from place : ℕ) (run : Run T) (runs : List (Run T)) → AreApart from runs
-      → from ≤ run.first → 0 < run.pages → end_of run ≤ 2 ^ 35 → run.index + run.pages ≤ 2 ^ 37
+      → from ≤ run.first → 0 < run.pages → end_of run ≤ 2 ^ 35 → run.index + run.pages ≤ 2 ^ 48
       → Each (λ r. (0 < r.pages) × (end_of r ≤ run.first)) (take place runs)
       → Each (λ r. (0 < r.pages) × (end_of run < r.first + 1)) (drop place runs)
       → AreApart from (runs_with place run runs)

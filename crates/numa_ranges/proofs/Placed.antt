@@ -26,7 +26,7 @@ module _ {T : Type 0} where
 
   pub apart-placed : (runs : List (Run T)) (place : ℕ) (run : Run T)
       → HasRoom runs place run.first (run.first + (run.pages - 1)) → 0 < run.pages
-      → end_of run ≤ 2 ^ 35 → run.index < 2 ^ 36 + 2 ^ 35 → AreApart 0 (runs_with place run runs)
+      → end_of run ≤ 2 ^ 35 → run.index < 2 ^ 47 → AreApart 0 (runs_with place run runs)
   apart-placed runs place run room some top index =
       apart-inserted 0 place run runs room.apart (omega arith) some top (omega arith) room.before
       (each-behind (drop place runs) (run.first + (run.pages - 1)) (end_of run) (omega arith)
@@ -44,7 +44,7 @@ module _ {T : Type 0} (same : T → T → Bool) (exact : (a b : T) → same a b 
       (place from to limit : ℕ) → inside ≡ now → from ≡ place - 1
       → to ≡ min (length now) (place + 1)
       → HasRoom now place run.first (run.first + (run.pages - 1)) → 0 < run.pages
-      → end_of run ≤ 2 ^ 35 → run.index < 2 ^ 36 + 2 ^ 35
+      → end_of run ≤ 2 ^ 35 → run.index < 2 ^ 47
       → Gathered same pieces ((slice_range inside from place ++ run ∷ [])
       ++ slice_range inside place to)
       → ((added : List (Run T)) → Gathered same pieces added
@@ -68,7 +68,7 @@ module _ {T : Type 0} (same : T → T → Bool) (exact : (a b : T) → same a b 
       (place from to limit : ℕ) (refusal : RangeError) → inside ≡ now → from ≡ place - 1
       → to ≡ min (length now) (place + 1)
       → HasRoom now place run.first (run.first + (run.pages - 1)) → 0 < run.pages
-      → end_of run ≤ 2 ^ 35 → run.index < 2 ^ 36 + 2 ^ 35
+      → end_of run ≤ 2 ^ 35 → run.index < 2 ^ 47
       → Gathered same pieces ((slice_range inside from place ++ run ∷ [])
       ++ slice_range inside place to)
       → ((added : List (Run T)) → Gathered same pieces added

@@ -7,7 +7,7 @@ use Rattle.numa_ranges.specs.declared.edited_row.EditedRow.{EditedRow}
 -- pages and indexes that end below the last page and index
 pub record IsPlaced (first pages index : ℕ) : Type 0 where
   pub last_page : first + pages ≤ 2 ^ 35
-  pub last_index : index + pages ≤ 2 ^ 37
+  pub last_index : index + pages ≤ 2 ^ 48
 
 abbrev pub IsRowPlaced : EditedRow → Type 0
 IsRowPlaced row = IsPlaced row.first row.pages row.index

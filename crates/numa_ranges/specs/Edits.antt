@@ -127,7 +127,7 @@ pub record IsRevalued {T : Type 0} (Made : T → T → Type 0) (run changed : Ru
 -- a run that ends below the last page and index
 pub record IsInRange {T : Type 0} (run : Run T) : Type 0 where
   pub end : end_of run ≤ 2 ^ 35
-  pub index : run.index + run.pages ≤ 2 ^ 37
+  pub index : run.index + run.pages ≤ 2 ^ 48
 
 -- a run that holds a page, and says what its pages are
 pub record HoldsPage {T : Type 0} (runs : List (Run T)) (run : Run T) (page : ℕ) : Type 0 where

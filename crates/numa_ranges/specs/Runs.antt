@@ -21,7 +21,7 @@ page_at (run ∷ runs) page = if in_pages run.first run.pages page
 -- page and index
 abbrev pub AreApart : {T : Type 0} → ℕ → List (Run T) → Type 0
 AreApart from [] = from ≤ 2 ^ 35
-AreApart from (run ∷ runs) = (from ≤ run.first) × (0 < run.pages) × (run.index + run.pages ≤ 2 ^ 37)
+AreApart from (run ∷ runs) = (from ≤ run.first) × (0 < run.pages) × (run.index + run.pages ≤ 2 ^ 48)
     × AreApart (end_of run) runs
 
 -- the second run begins where the first ends, with the next index and the same value

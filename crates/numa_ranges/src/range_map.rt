@@ -29,7 +29,7 @@ use std::marker::Model;
 /// A finite map from pages to an index and a value, kept as its ranges.
 ///
 /// A range is a maximal run of mapped pages with consecutive indexes and equal values. Page numbers
-/// are below 2^35, indexes below 2^37. The index of a page is its offset, in pages, in what is
+/// are below 2^35, indexes below 2^48. The index of a page is its offset, in pages, in what is
 /// mapped there, as the offset of mmap(2): it belongs to its page, whatever happens to adjacent
 /// pages. Ranges split and join as Linux splits and merges the areas of an address space under
 /// mbind(2).
@@ -98,6 +98,7 @@ impl<T: Exact> RangeMap<T> {
         ensures runs { result ≡ length self.now.runs }
         ensures count { result ≡ range_count T.eq (page_at self.now.runs) }
         ensures max_ranges { result ≤ self.now.max_ranges }
+        ensures few { result < 2 ^ 32 }
     {
         self.runs.len()
     }
@@ -156,7 +157,7 @@ impl<T: Exact> RangeMap<T> {
     /// The index and the value of a page, if it is mapped, by a binary search.
     pub fn at(&self, page: u64) -> Option<(u64, T)>
         ensures page { result ≡ page_at self.now.runs page }
-        ensures bound { IfSome result (λ found. (page < 2 ^ 35) × (found.0 < 2 ^ 37)) }
+        ensures bound { IfSome result (λ found. (page < 2 ^ 35) × (found.0 < 2 ^ 48)) }
     {
         let run = self.run_at(page)?;
         Some((run.index + (page - run.first), run.value))
@@ -189,7 +190,7 @@ impl<T: Exact> RangeMap<T> {
         value: T,
     ) -> Result<(), RangeError>
         requires span { IsSpan first pages }
-        requires index { index < 2 ^ 36 + 2 ^ 35 }
+        requires index { index < 2 ^ 47 }
         ensures ok { OnOk result (Shows self.new.runs
             (with_span first pages index value (page_at self.old.runs))) }
         ensures accepted { OnOk result (map_refusal T.eq self.old.max_ranges
@@ -217,7 +218,7 @@ impl<T: Exact> RangeMap<T> {
     fn insert_run(&mut self, place: usize, run: Run<T>, near: usize) -> Result<(), RangeError>
         requires span { IsSpan run.first run.pages }
         requires room { HasRoom self.old.runs place run.first (run.first + (run.pages - 1)) }
-        requires index { run.index < 2 ^ 36 + 2 ^ 35 }
+        requires index { run.index < 2 ^ 47 }
         ensures ok { OnOk result (Becomes T.eq self.old self.new
             (with_span run.first run.pages run.index run.value (page_at self.old.runs))) }
         ensures err { IfErr result (IsRefusal (count_refusal T.eq self.old.max_ranges

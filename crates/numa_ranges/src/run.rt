@@ -20,7 +20,7 @@ pub struct Run<T> {
 /// Whether the second run continues the first.
 pub(crate) fn continues<T: Exact>(run: &Run<T>, next: &Run<T>) -> bool
     requires end { end_of run.now ≤ 2 ^ 36 }
-    requires index { run.now.index + run.now.pages ≤ 2 ^ 37 }
+    requires index { run.now.index + run.now.pages ≤ 2 ^ 48 }
     ensures { IsTrue result ↔ Continues run.now next.now }
 {
     next.first == run.first + run.pages

@@ -18,7 +18,7 @@ in_pages-inside first pages page has = elim (cases_Bool (nat_le first page)) [
 module _ {T : Type 0} where
   -- a run whose pages are so many more than their index is small
   abbrev IsSmall : Run T → Type 0
-  IsSmall run = run.index + run.pages ≤ 2 ^ 37
+  IsSmall run = run.index + run.pages ≤ 2 ^ 48
 
   -- the run has the page
   pub run-has : (runs : List (Run T)) (page : ℕ) (run : Run T) → run_with runs page ≡ Some run
@@ -46,7 +46,7 @@ module _ {T : Type 0} where
       ]
 
   pub run-small : (from : ℕ) (runs : List (Run T)) (page : ℕ) (run : Run T) → AreApart from runs
-      → run_with runs page ≡ Some run → run.index + run.pages ≤ 2 ^ 37
+      → run_with runs page ≡ Some run → run.index + run.pages ≤ 2 ^ 48
   run-small from [] page run apart found = absurd (cc)
   run-small from (other ∷ runs) page run apart found =
       elim (cases_Bool (in_pages other.first other.pages page)) [

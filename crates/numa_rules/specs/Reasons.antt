@@ -11,7 +11,7 @@ use Rattle.numa_mode.specs.declared.modes.Mode.{Mode}
 use Rattle.numa_mode.specs.declared.modes.Mode.TheVariants as mode
 use Rattle.numa_ranges.specs.Runs.{in_pages}
 use Rattle.numa_ranges.specs.declared.run.Run.{Run}
-use Rattle.numa_space.specs.Lists.{Setting, near, within}
+use Rattle.numa_space.specs.Lists.{Setting, near, usable, within}
 use Rattle.numa_rules.specs.declared.rule.WeightedTurn.{WeightedTurn}
 use Rattle.numa_rules.specs.declared.rule.OrderRule.{OrderRule}
 use Rattle.numa_rules.specs.declared.rule.OrderRule.TheVariants.{Local, Preferred, Bind}
@@ -95,7 +95,8 @@ before_others setting set from = within set (fallback_order setting.machine from
 abbrev pub ordered_by : Setting → ℕ → OrderRule → List ℕ
 ordered_by setting set (Local from) = near setting from
 ordered_by setting set (Preferred node) = near setting node
-ordered_by setting set (Bind from) = within set (fallback_order setting.machine from)
+ordered_by setting set (Bind from) =
+    within (usable setting.allowed set) (fallback_order setting.machine from)
 ordered_by setting set (PreferredMany from) =
     before_others setting (both set setting.allowed) from
 ordered_by setting set (Interleave turn) = near setting turn.node

@@ -19,7 +19,7 @@ fn has_page(run: &Run<RangeRecord>, page: u64) -> bool
 pub fn range_of(space: &Space, page: u64) -> Option<Run<RangeRecord>>
     ensures run { result ≡ run_with space.now.ranges page }
     ensures range { IfSome result (λ run. IsRange same_record (page_at space.now.ranges) run) }
-    ensures small { IfSome result (λ run. run.index + run.pages ≤ 2 ^ 37) }
+    ensures small { IfSome result (λ run. run.index + run.pages ≤ 2 ^ 48) }
 {
     for range in space.range_iter() {
         if has_page(&range, page) {

@@ -23,7 +23,7 @@ use Rattle.numa_run.specs.Ranges.{single, singles, ranges_of, listing_of}
 module _ {T : Type 0} where
   -- each index fits a range
   abbrev pub AreSmall : (ℕ → Option (ℕ × T)) → Type 0
-  AreSmall at = (page : ℕ) (p : ℕ × T) → at page ≡ Some p → p.0 + 1 ≤ 2 ^ 37
+  AreSmall at = (page : ℕ) (p : ℕ × T) → at page ≡ Some p → p.0 + 1 ≤ 2 ^ 48
 
   -- what a list of runs that are apart says of a page
   page_at-small : (from : ℕ) (runs : List (Run T)) → AreApart from runs → AreSmall (page_at runs)

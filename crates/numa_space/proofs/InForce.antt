@@ -52,7 +52,7 @@ pub in_force-now : (machine : Hardware) (allowed : ℕ) (spec : Specification)
     → both allowed machine.memory ≡ allowed
     → IsInForce machine allowed (record_when_set spec allowed)
 in_force-now machine allowed spec memory = record {
-  inside = λ follows. within-both (effect_when_set spec allowed) allowed
+  inside = λ own follows. within-both (effect_when_set spec allowed) allowed
       (effect_when_set-within spec allowed);
   memory = inside-memory machine allowed (effect_when_set spec allowed) memory
       (effect_when_set-within spec allowed);
@@ -72,17 +72,18 @@ pub in_force-after : (machine : Hardware) (old new : ℕ) (r : PolicyRecord) →
     → both new machine.memory ≡ new → IsInForce machine old r
     → IsInForce machine new (record_after machine.rules r old new)
 in_force-after machine old new r some memory force =
-    let after : stays machine.rules r.spec.mode ≡ false
-    → IsWithin (effect_after machine.rules r.spec r.effective old new) new =
-    λ follows. effect_after-within machine.rules r.spec r.effective old new some follows
-    (within-from_both r.effective old (force.inside follows)) in
+    let set = effect_after machine.rules r.spec r.effective old new in
+    let after : r.of_object ≡ false → stays machine.rules r.spec.mode ≡ false → IsWithin set new =
+    λ own follows. effect_after-within machine.rules r.spec r.effective old new some follows
+    (within-from_both r.effective old (force.inside own follows)) in
     record {
-      inside = λ follows. within-both (effect_after machine.rules r.spec r.effective old new) new
-          (after follows);
-      memory = elim (cases_Bool (stays machine.rules r.spec.mode)) [
-        | inl t ↦ rw t force.memory
-        | inr f ↦ inside-memory machine new (effect_after machine.rules r.spec r.effective old new)
-            memory (after f)
+      inside = λ own follows. rw own (within-both set new (after own follows));
+      memory = elim (cases_Bool r.of_object) [
+        | inl marked ↦ rw marked force.memory
+        | inr own ↦ elim (cases_Bool (stays machine.rules r.spec.mode)) [
+          | inl t ↦ rw (own, t) force.memory
+          | inr f ↦ rw own (inside-memory machine new set memory (after own f))
+        ]
       ];
       home = force.home;
     }

@@ -18,7 +18,7 @@ use Rattle.numa_mode.specs.declared.modes.Mode.{Mode}
 use Rattle.numa_mode.specs.declared.modes.Mode.TheVariants.{Default, Preferred, Bind, Interleave}
 use Rattle.numa_mode.specs.declared.modes.Mode.TheVariants.{Local, PreferredMany}
 use Rattle.numa_mode.specs.declared.modes.Mode.TheVariants.{WeightedInterleave}
-use Rattle.numa_space.specs.Lists.{Setting, within, list_by_mode, list_for}
+use Rattle.numa_space.specs.Lists.{Setting, within, list_by_mode, list_for, usable}
 
 -- ---- filters
 
@@ -82,7 +82,7 @@ mode-short setting Preferred set from index =
 mode-short setting Bind set from index =
     omega (
       arith,
-      filter-short (has set) (fallback_order setting.machine from),
+      filter-short (has (usable setting.allowed set)) (fallback_order setting.machine from),
       order-short setting.machine from,
     )
 mode-short setting Interleave set from index =
@@ -139,7 +139,8 @@ mode-below setting Default set from index = filtered-below (has setting.allowed)
     from
 mode-below setting Preferred set from index = filtered-below (has setting.allowed) setting.machine
     (slice_index (members set) 0)
-mode-below setting Bind set from index = filtered-below (has set) setting.machine from
+mode-below setting Bind set from index =
+    filtered-below (has (usable setting.allowed set)) setting.machine from
 mode-below setting Interleave set from index = filtered-below (has setting.allowed) setting.machine
     (interleave_node set index)
 mode-below setting Local set from index = filtered-below (has setting.allowed) setting.machine from

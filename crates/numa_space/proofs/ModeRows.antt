@@ -21,7 +21,7 @@ use Rattle.numa_mode.specs.declared.modes.Mode.{Mode}
 use Rattle.numa_mode.specs.declared.modes.Mode.TheVariants.{Default, Preferred, Bind, Interleave}
 use Rattle.numa_mode.specs.declared.modes.Mode.TheVariants.{Local, PreferredMany}
 use Rattle.numa_mode.specs.declared.modes.Mode.TheVariants.{WeightedInterleave}
-use Rattle.numa_space.specs.Lists.{Setting, list_by_mode, near}
+use Rattle.numa_space.specs.Lists.{Setting, list_by_mode, near, usable}
 use Rattle.numa_space.specs.Rows.{IsRow, IsNearRow, IsLowest, IsRowAround, IsModeRow}
 
 -- ---- what a filter keeps
@@ -174,7 +174,8 @@ mode-is setting Preferred set from index some weights =
       is_row =
           near-is setting (slice_index (members set) 0);
     }
-mode-is setting Bind set from index some weights = row-is setting.machine from (has set)
+mode-is setting Bind set from index some weights =
+    row-is setting.machine from (has (usable setting.allowed set))
 mode-is setting PreferredMany set from index some weights = record {
   first = filter (has (both set setting.allowed)) (fallback_order setting.machine from);
   others = filter (λ node. has setting.allowed node && not (has (both set setting.allowed) node))
@@ -209,7 +210,8 @@ mode-only setting Default set from index row is = near-only setting from row is
 mode-only setting Local set from index row is = near-only setting from row is
 mode-only setting Preferred set from index row is =
     around-only setting (IsLowest set) (slice_index (members set) 0) row (lowest-only set) is
-mode-only setting Bind set from index row is = row-only setting.machine from (has set) row is
+mode-only setting Bind set from index row is =
+    row-only setting.machine from (has (usable setting.allowed set)) row is
 mode-only setting PreferredMany set from index row is =
     is.whole ∙ (λ i. row-only setting.machine from (has (both set setting.allowed)) is.first
     is.is_first i ++ row-only setting.machine from (λ node. has setting.allowed node

@@ -28,7 +28,7 @@ use Rattle.numa_mode.specs.declared.modes.Mode.TheVariants.{Local, PreferredMany
 use Rattle.numa_mode.specs.declared.modes.Mode.TheVariants.{WeightedInterleave}
 use Rattle.numa_ranges.specs.Runs.{page_at}
 use Rattle.numa_space.specs.Policies.{where_live, policy_that_counts}
-use Rattle.numa_space.specs.Lists.{within, list_by_mode, list_for}
+use Rattle.numa_space.specs.Lists.{within, list_by_mode, list_for, usable}
 use Rattle.numa_space.specs.Standing.{SpaceState, record_of, setting_in, policy_in, list_in}
 use Rattle.numa_space.specs.Standing.{IsNodeList, IsInForce, IsSound}
 
@@ -165,46 +165,44 @@ module _ (machine : Hardware) (allowed : ℕ) (small : machine.memory < 2 ^ 256)
           (not-true (has set b) (and_parts (has allowed b) (not (has set b)) two).1)
           (ap (has set) (sym same) ∙ one)
 
-  bind-follows : (rules : Rules) → stays rules Bind ≡ false
-  bind-follows Document = refl
-  bind-follows Linux = refl
-
-  -- a live policy of another mode than LOCAL has a node
-  live-filled : (r : PolicyRecord) → is_live r ≡ true → is_local r.spec ≡ false → r.effective ≢ 0
-  live-filled r live local none =
-      elim (or_cases (not (eqb r.effective 0)) (is_local r.spec) live) [
-        | inl filled ↦ both_ways (eqb r.effective 0) (not-true (eqb r.effective 0) filled)
-            (eq-eqb r.effective 0 none)
-        | inr t ↦ both_ways (is_local r.spec) local t
+  -- the nodes that BIND keeps to are some, and allowed
+  pub usable-some : (set : ℕ) → usable allowed set ≢ 0
+  usable-some set =
+      elim (cases_Bool (eqb (both set allowed) 0)) [
+        | inl t ↦ rw t some
+        | inr f ↦ rw f (λ none. both_ways (eqb (both set allowed) 0) f
+            (eq-eqb (both set allowed) 0 none))
       ]
 
-  -- the list of a live policy that is in force
-  mode-nodes : (weight : ℕ → ℕ) (mode : Mode) (set from turn : ℕ)
-      → (is_local_mode mode ≡ false → set ≢ 0)
-      → (stays machine.rules mode ≡ false → both set allowed ≡ set)
-      → IsNodeList allowed
+  pub usable-inside : (set : ℕ) → both (usable allowed set) allowed ≡ usable allowed set
+  usable-inside set =
+      elim (cases_Bool (eqb (both set allowed) 0)) [
+        | inl t ↦ rw t (within-both allowed allowed (λ node member. member))
+        | inr f ↦ rw f (within-both (both set allowed) allowed (both-within set allowed))
+      ]
+
+  -- the list of a policy
+  mode-nodes : (weight : ℕ → ℕ) (mode : Mode) (set from turn : ℕ) → IsNodeList allowed
       (list_by_mode (record { machine = machine; allowed = allowed; weight = weight }) mode set from
       turn)
-  mode-nodes weight Default set from turn filled inside = near-nodes from
-  mode-nodes weight Preferred set from turn filled inside =
-      near-nodes (slice_index (members set) 0)
-  mode-nodes weight Bind set from turn filled inside =
-      ordered-nodes set from (filled refl) (inside (bind-follows machine.rules))
-  mode-nodes weight Interleave set from turn filled inside = near-nodes (interleave_node set turn)
-  mode-nodes weight Local set from turn filled inside = near-nodes from
-  mode-nodes weight PreferredMany set from turn filled inside =
+  mode-nodes weight Default set from turn = near-nodes from
+  mode-nodes weight Preferred set from turn = near-nodes (slice_index (members set) 0)
+  mode-nodes weight Bind set from turn =
+      ordered-nodes (usable allowed set) from (usable-some set) (usable-inside set)
+  mode-nodes weight Interleave set from turn = near-nodes (interleave_node set turn)
+  mode-nodes weight Local set from turn = near-nodes from
+  mode-nodes weight PreferredMany set from turn =
       preferred-nodes (both set allowed) from
       (within-both (both set allowed) allowed (both-within set allowed))
-  mode-nodes weight WeightedInterleave set from turn filled inside =
-      near-nodes (weighted_node weight set turn)
+  mode-nodes weight WeightedInterleave set from turn = near-nodes (weighted_node weight set turn)
 
   pub policy-nodes : (weight : ℕ → ℕ) (policy : Option PolicyRecord) (cpu index : ℕ)
       → IfSome policy (λ r. IsInForce machine allowed r × (is_live r ≡ true))
       → IsNodeList allowed
       (list_for (record { machine = machine; allowed = allowed; weight = weight }) policy cpu index)
   policy-nodes weight None cpu index h = near-nodes cpu
-  policy-nodes weight (Some r) cpu index h = mode-nodes weight r.spec.mode r.effective
-      (unwrap_or r.home cpu) (turn_at index) (λ other. live-filled r h.1 other) h.0.inside
+  policy-nodes weight (Some r) cpu index h =
+      mode-nodes weight r.spec.mode r.effective (unwrap_or r.home cpu) (turn_at index)
 
 -- ---- the policy that counts
 

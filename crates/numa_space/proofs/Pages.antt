@@ -114,6 +114,7 @@ record-other machine history page command same none =
       effective = effective-other machine place.before place.after spec
           command same i;
       home = None;
+      of_object = false;
     })))
 
 record-home : (machine : Hardware) (history : List Command) (page start bytes node : ℕ)
@@ -188,9 +189,15 @@ record-mems machine history page mask =
                   effective = moved i;
                   home =
                       last_home page place.after;
+                  of_object = false;
                 }))
             | inr t ↦
-                rw (d, t) (λ i. Some (record { spec = spec; effective = moved i; home = None }))
+                rw (d, t) (λ i. Some (record {
+                  spec = spec;
+                  effective = moved i;
+                  home = None;
+                  of_object = false;
+                }))
           ]
         ]
 
@@ -204,8 +211,18 @@ bound-now machine history page command spec =
     elim (cases_Bool (is_default spec)) [
       | inl d ↦ rw d refl
       | inr d ↦ elim (cases_Bool (mode_takes_home spec.mode)) [
-        | inl t ↦ rw (d, t) (λ i. Some (record { spec = spec; effective = now i; home = None }))
-        | inr t ↦ rw (d, t) (λ i. Some (record { spec = spec; effective = now i; home = None }))
+        | inl t ↦ rw (d, t) (λ i. Some (record {
+          spec = spec;
+          effective = now i;
+          home = None;
+          of_object = false;
+        }))
+        | inr t ↦ rw (d, t) (λ i. Some (record {
+          spec = spec;
+          effective = now i;
+          home = None;
+          of_object = false;
+        }))
       ]
     ]
 

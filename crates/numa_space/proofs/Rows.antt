@@ -1,12 +1,12 @@
 -- Worked examples: the fallback lists that the definitions give.
 use Rattle.std.proofs.Common.{◌≡◌, ℕ, ◌^◌, ◌-◌, Some, None, ◌*◌, ◌/◌, ◌%◌, eqb, cond, List, [], ◌∷◌}
-use Rattle.std.proofs.Common.{map, take, replicate, refl}
+use Rattle.std.proofs.Common.{map, take, replicate, refl, false}
 use Rattle.std.specs.List.{flat_map, range_with_len}
 use Rattle.numa_mask.specs.NodeSet.{set_of, members}
 use Rattle.numa_machine.specs.declared.fallback.Fallback.TheVariants.{Nearest, Kernel}
 use Rattle.numa_machine.specs.declared.rules.Rules.TheVariants.{Document, Linux}
 use Rattle.numa_machine.specs.Machine.{Hardware, fallback_order, loads_before}
-use Rattle.numa_machine.specs.Sizes.{is_part, turn_at}
+use Rattle.numa_machine.specs.Sizes.{is_part, is_shared, turn_at}
 use Rattle.numa_machine.specs.Weights.{interleave_node, weighted_node, total_weight}
 use Rattle.numa_machine.specs.declared.page_size.PageSize.TheVariants.{Small}
 use Rattle.numa_mode.specs.Policy.{Specification}
@@ -88,11 +88,11 @@ interleaved_run =
     ∷ []
 
 plain-set_moves : firsts (flat 6) interleaved_run 1 0x10 6 ≡ 3 ∷ 4 ∷ 5 ∷ 3 ∷ 4 ∷ 5 ∷ []
-unfolding members fallback_order interleave_node turn_at is_part firsts interleaved_run mems_of
+unfolding members fallback_order interleave_node turn_at is_part is_shared firsts interleaved_run mems_of
 plain-set_moves = refl
 
 static-set_stays : firsts (flat 6) interleaved_run 2 0x10 6 ≡ 3 ∷ 3 ∷ 3 ∷ 3 ∷ 3 ∷ 3 ∷ []
-unfolding members fallback_order interleave_node turn_at is_part firsts interleaved_run mems_of
+unfolding members fallback_order interleave_node turn_at is_part is_shared firsts interleaved_run mems_of
 static-set_stays = refl
 
 relative_run : List Command
@@ -100,18 +100,18 @@ relative_run = SetTask 1 (asked Interleave Relative (2 ∷ 3 ∷ 4 ∷ 5 ∷ [])
     ∷ mems (2 ∷ 3 ∷ 4 ∷ 5 ∷ []) ∷ Map 0x10000 0x4000 0 Small ∷ []
 
 relative-as_set : firsts (flat 8) relative_run 1 0x10 4 ≡ 2 ∷ 3 ∷ 4 ∷ 5 ∷ []
-unfolding members fallback_order interleave_node turn_at is_part firsts relative_run mems_of
+unfolding members fallback_order interleave_node turn_at is_part is_shared firsts relative_run mems_of
 relative-as_set = refl
 
 relative-more_nodes : firsts (flat 8) (mems (3 ∷ 4 ∷ 5 ∷ 6 ∷ 7 ∷ []) ∷ relative_run) 1 0x10 4 ≡ 3
     ∷ 5 ∷ 6 ∷ 7 ∷ []
-unfolding members fallback_order interleave_node turn_at is_part firsts relative_run mems_of
+unfolding members fallback_order interleave_node turn_at is_part is_shared firsts relative_run mems_of
 relative-more_nodes = refl
 
 relative-scattered_nodes :
     firsts (flat 8) (mems (0 ∷ 2 ∷ 3 ∷ 5 ∷ []) ∷ mems (3 ∷ 4 ∷ 5 ∷ 6 ∷ 7 ∷ []) ∷ relative_run) 1
     0x10 4 ≡ 0 ∷ 2 ∷ 3 ∷ 5 ∷ []
-unfolding members fallback_order interleave_node turn_at is_part firsts relative_run mems_of
+unfolding members fallback_order interleave_node turn_at is_part is_shared firsts relative_run mems_of
 relative-scattered_nodes = refl
 
 -- a mask's numbers wrap where they pass the last place: 5 is place 1 of four nodes
@@ -128,16 +128,16 @@ plain_run = SetTask 1 (asked Interleave Plain (1 ∷ 3 ∷ 5 ∷ [])) ∷ mems (
     ∷ Map 0x10000 0x3000 0 Small ∷ []
 
 plain-as_set : firsts (flat 10) plain_run 1 0x10 3 ≡ 1 ∷ 3 ∷ 5 ∷ []
-unfolding members fallback_order interleave_node turn_at is_part firsts plain_run mems_of
+unfolding members fallback_order interleave_node turn_at is_part is_shared firsts plain_run mems_of
 plain-as_set = refl
 
 plain-moved : firsts (flat 10) (mems (7 ∷ 8 ∷ 9 ∷ []) ∷ plain_run) 1 0x10 3 ≡ 7 ∷ 8 ∷ 9 ∷ []
-unfolding members fallback_order interleave_node turn_at is_part firsts plain_run mems_of
+unfolding members fallback_order interleave_node turn_at is_part is_shared firsts plain_run mems_of
 plain-moved = refl
 
 plain-not_restored : firsts (flat 10) (mems (1 ∷ 2 ∷ 3 ∷ 4 ∷ 5 ∷ []) ∷ mems (7 ∷ 8 ∷ 9 ∷ [])
     ∷ plain_run) 1 0x10 3 ≡ 1 ∷ 2 ∷ 3 ∷ []
-unfolding members fallback_order interleave_node turn_at is_part firsts plain_run mems_of
+unfolding members fallback_order interleave_node turn_at is_part is_shared firsts plain_run mems_of
 plain-not_restored = refl
 
 -- so does a plain BIND
@@ -157,7 +157,12 @@ plain_bind-not_restored = refl
 -- PREFERRED keeps the lowest of its nodes
 preferred-lowest : task_record (flat 2) (SetTask 4 (asked Preferred Plain (0 ∷ 1 ∷ [])) ∷ []) 4
     ≡ Some
-    (record { spec = asked Preferred Plain (0 ∷ 1 ∷ []); effective = set_of (0 ∷ []); home = None })
+    (record {
+      spec = asked Preferred Plain (0 ∷ 1 ∷ []);
+      effective = set_of (0 ∷ []);
+      home = None;
+      of_object = false;
+    })
 unfolding members mems_of
 preferred-lowest = refl
 
@@ -179,8 +184,8 @@ relative-many_nodes : task_record many_nodes
     (record {
       spec = asked Bind Relative (1 ∷ 255 ∷ []);
       effective = set_of (64 ∷ 65 ∷ []);
-      home =
-          None;
+      home = None;
+      of_object = false;
     })
 unfolding members many_nodes mems_of
 relative-many_nodes = refl
@@ -231,17 +236,17 @@ weighted_run = SetTask 1 (asked WeightedInterleave Plain (0 ∷ 1 ∷ [])) ∷ M
     ∷ SetWeight 1 2 ∷ SetWeight 0 5 ∷ []
 
 weighted-blocks : firsts (flat 2) weighted_run 1 0x10 6 ≡ 0 ∷ 0 ∷ 1 ∷ 1 ∷ 0 ∷ 0 ∷ []
-unfolding members fallback_order weighted_node turn_at is_part total_weight firsts weighted_run
+unfolding members fallback_order weighted_node turn_at is_part is_shared total_weight firsts weighted_run
     mems_of
 weighted-blocks = refl
 
 weighted-list : node_list (flat 2) weighted_run 1 0x12 0 ≡ 1 ∷ 0 ∷ []
-unfolding members fallback_order weighted_node turn_at is_part total_weight weighted_run mems_of
+unfolding members fallback_order weighted_node turn_at is_part is_shared total_weight weighted_run mems_of
 weighted-list = refl
 
 preferred_many-list : node_list (flat 2) (SetTask 2 (asked PreferredMany Plain (1 ∷ []))
     ∷ weighted_run) 2 0x10 0 ≡ 1 ∷ 0 ∷ []
-unfolding members fallback_order weighted_node turn_at is_part total_weight weighted_run mems_of
+unfolding members fallback_order weighted_node turn_at is_part is_shared total_weight weighted_run mems_of
 preferred_many-list = refl
 
 -- ---- a policy in the middle of a range, and its removal
@@ -252,12 +257,12 @@ split_run = Mbind 0x13000 0x3000 (asked Bind Plain (2 ∷ []))
 
 split-keeps_indexes : firsts (flat 4) split_run 1 0x10 10 ≡ 0 ∷ 1 ∷ 2 ∷ 2 ∷ 2 ∷ 2 ∷ 2 ∷ 3 ∷ 0 ∷ 1
     ∷ []
-unfolding members fallback_order interleave_node turn_at is_part firsts split_run mems_of
+unfolding members fallback_order interleave_node turn_at is_part is_shared firsts split_run mems_of
 split-keeps_indexes = refl
 
 default-joins_again : firsts (flat 4) (Mbind 0x13000 0x3000 (asked Default Plain []) ∷ split_run) 1
     0x10 10 ≡ 0 ∷ 1 ∷ 2 ∷ 3 ∷ 0 ∷ 1 ∷ 2 ∷ 3 ∷ 0 ∷ 1 ∷ []
-unfolding members fallback_order interleave_node turn_at is_part firsts split_run mems_of
+unfolding members fallback_order interleave_node turn_at is_part is_shared firsts split_run mems_of
 default-joins_again = refl
 
 -- maps side by side keep their own indexes, and so does what is left of them
@@ -266,11 +271,11 @@ beside_run = SetTask 1 (asked Interleave Plain (0 ∷ 1 ∷ 2 ∷ 3 ∷ [])) ∷
     ∷ Map 0x11000 0x1000 6 Small ∷ Map 0x10000 0x1000 0 Small ∷ []
 
 beside-own_indexes : firsts (flat 4) beside_run 1 0x10 3 ≡ 0 ∷ 2 ∷ 3 ∷ []
-unfolding members fallback_order interleave_node turn_at is_part firsts beside_run mems_of
+unfolding members fallback_order interleave_node turn_at is_part is_shared firsts beside_run mems_of
 beside-own_indexes = refl
 
 unmapped-keeps_indexes : firsts (flat 4) (Unmap 0xf000 0x3000 ∷ beside_run) 1 0x12 1 ≡ 3 ∷ []
-unfolding members fallback_order interleave_node turn_at is_part firsts beside_run mems_of
+unfolding members fallback_order interleave_node turn_at is_part is_shared firsts beside_run mems_of
 unmapped-keeps_indexes = refl
 
 -- ---- nodes without memory
@@ -413,7 +418,7 @@ static-has_all = refl
 
 -- weight 0 puts back 1
 weight-put_back : firsts linux (SetWeight 0 0 ∷ weighted_run) 1 0x10 3 ≡ 0 ∷ 1 ∷ 1 ∷ []
-unfolding members fallback_order weighted_node turn_at is_part total_weight firsts weighted_run
+unfolding members fallback_order weighted_node turn_at is_part is_shared total_weight firsts weighted_run
     linux mems_of
 weight-put_back = refl
 

@@ -1,5 +1,5 @@
 -- Two records that the test says are one are equal.
-use Rattle.std.proofs.Common.{◌≡◌, ℕ, Bool, true, eqb, ◌&&◌, Option, Some, None, refl, sym, ap, ◌∙◌}
+use Rattle.std.proofs.Common.{◌≡◌, ℕ, Bool, true, false, eqb, ◌&&◌, Option, Some, None, refl, sym, ap, ◌∙◌}
 use Rattle.std.proofs.Common.{inl, inr}
 use Rattle.std.proofs.lemmas.Bool.{cases_Bool, and_parts, and_from, eqb-true, eq-eqb}
 use Rattle.std.proofs.lemmas.Bool.{false_from_ne_true, both_ways}
@@ -11,7 +11,7 @@ use Rattle.numa_mode.specs.declared.modes.Mode.TheVariants.{WeightedInterleave}
 use Rattle.numa_mode.specs.declared.modes.NodeFlag.{NodeFlag}
 use Rattle.numa_mode.specs.declared.modes.NodeFlag.TheVariants.{Plain, Static, Relative}
 use Rattle.numa_space.specs.Same.{mode_number, same_flag, same_home, same_specification}
-use Rattle.numa_space.specs.Same.{same_record}
+use Rattle.numa_space.specs.Same.{same_record, same_scope}
 
 mode_numbered-number : (mode : Mode) → mode_numbered (mode_number mode) ≡ Some mode
 mode_numbered-number Default = refl
@@ -54,6 +54,16 @@ home-refl : (a : Option ℕ) → same_home a a ≡ true
 home-refl None = refl
 home-refl (Some a) = eq-eqb a a refl
 
+scope-exact : (a b : Bool) → same_scope a b ≡ true → a ≡ b
+scope-exact true true h = refl
+scope-exact true false h = absurd (cc)
+scope-exact false true h = absurd (cc)
+scope-exact false false h = refl
+
+scope-refl : (a : Bool) → same_scope a a ≡ true
+scope-refl true = refl
+scope-refl false = refl
+
 specification-exact : (a b : Specification) → same_specification a b ≡ true → a ≡ b
 specification-exact a b h =
     let first = and_parts (eqb (mode_number a.mode) (mode_number b.mode))
@@ -76,20 +86,25 @@ same_record-exact None (Some b) h = absurd (cc)
 same_record-exact (Some a) None h = absurd (cc)
 same_record-exact (Some a) (Some b) h =
     let first = and_parts (same_specification a.spec b.spec)
-    (eqb a.effective b.effective && same_home a.home b.home) h in
-    let rest = and_parts (eqb a.effective b.effective) (same_home a.home b.home) first.1 in
+    (eqb a.effective b.effective && (same_home a.home b.home
+    && same_scope a.of_object b.of_object)) h in
+    let rest = and_parts (eqb a.effective b.effective) (same_home a.home b.home
+    && same_scope a.of_object b.of_object) first.1 in
+    let last = and_parts (same_home a.home b.home) (same_scope a.of_object b.of_object) rest.1 in
     λ i.
     Some (record {
       spec = specification-exact a.spec b.spec first.0 i;
       effective =
           eqb-true a.effective b.effective rest.0 i;
-      home = home-exact a.home b.home rest.1 i;
+      home = home-exact a.home b.home last.0 i;
+      of_object = scope-exact a.of_object b.of_object last.1 i;
     })
 
 pub same_record-refl : (a : Option PolicyRecord) → same_record a a ≡ true
 same_record-refl None = refl
 same_record-refl (Some a) = and_from _ _ (specification-refl a.spec)
-    (and_from _ _ (eq-eqb a.effective a.effective refl) (home-refl a.home))
+    (and_from _ _ (eq-eqb a.effective a.effective refl)
+    (and_from _ _ (home-refl a.home) (scope-refl a.of_object)))
 
 -- any two tests that are true of equal values alone count the same ranges
 module _ {T : Type 0} (f g : T → T → Bool) (f-exact : (a b : T) → f a b ≡ true → a ≡ b)

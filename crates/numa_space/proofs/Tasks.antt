@@ -90,6 +90,7 @@ record-other machine history task command same =
       effective = effective-other machine place.before place.after spec
           command same i;
       home = None;
+      of_object = false;
     }))
 
 record-mems : (machine : Hardware) (history : List Command) (task mask : ℕ)
@@ -117,7 +118,12 @@ record-mems machine history task mask =
     go place spec moved =
         elim (cases_Bool (is_default spec)) [
           | inl d ↦ rw d refl
-          | inr d ↦ rw d (λ i. Some (record { spec = spec; effective = moved i; home = None }))
+          | inr d ↦ rw d (λ i. Some (record {
+            spec = spec;
+            effective = moved i;
+            home = None;
+            of_object = false;
+          }))
         ]
 
 set-now : (machine : Hardware) (history : List Command) (command : Command) (spec : Specification)
@@ -127,7 +133,12 @@ set-now machine history command spec =
     let now = effective-now machine history spec in
     elim (cases_Bool (is_default spec)) [
       | inl d ↦ rw d refl
-      | inr d ↦ rw d (λ i. Some (record { spec = spec; effective = now i; home = None }))
+      | inr d ↦ rw d (λ i. Some (record {
+        spec = spec;
+        effective = now i;
+        home = None;
+        of_object = false;
+      }))
     ]
 
 -- the record of each task after one command more

@@ -1,7 +1,7 @@
 -- The fallback list of a page: on which nodes its memory is looked for, in which order
 -- (set_mempolicy(2), "NUMA Memory Policy").
 use Rattle.std.specs.Prelude.{ℕ, ◌&&◌, not, Option, Some, None, List, ◌++◌, filter, slice_index}
-use Rattle.std.specs.Prelude.{unwrap_or}
+use Rattle.std.specs.Prelude.{◌==◌, unwrap_or, if◌then◌else◌}
 use Rattle.numa_mask.specs.NodeSet.{has, members, both}
 use Rattle.numa_machine.specs.Machine.{Hardware, fallback_order}
 use Rattle.numa_machine.specs.Sizes.{turn_at}
@@ -37,13 +37,19 @@ before_others setting set from =
     ++ filter (λ node. has setting.allowed node && not (has set node))
     (fallback_order setting.machine from)
 
+-- the nodes of a set that BIND keeps to: those that are allowed, or where none is, all that are (the
+-- policy of an object's places keeps its nodes, whoever maps it; others have allowed ones alone)
+abbrev pub usable : ℕ → ℕ → ℕ
+usable allowed set = if both set allowed == 0 then allowed else both set allowed
+
 -- the list of a policy with this effective set, for a fault on the node `from`, at a page that has
 -- this turn
 abbrev pub list_by_mode : Setting → Mode → ℕ → ℕ → ℕ → List ℕ
 list_by_mode setting Default set from turn = near setting from
 list_by_mode setting Local set from turn = near setting from
 list_by_mode setting Preferred set from turn = near setting (slice_index (members set) 0)
-list_by_mode setting Bind set from turn = within set (fallback_order setting.machine from)
+list_by_mode setting Bind set from turn =
+    within (usable setting.allowed set) (fallback_order setting.machine from)
 list_by_mode setting PreferredMany set from turn =
     before_others setting (both set setting.allowed) from
 list_by_mode setting Interleave set from turn = near setting (interleave_node set turn)

@@ -78,6 +78,7 @@ record_set machine spec place =
       spec = spec;
       effective = effective_set machine place.before place.after spec;
       home = None;
+      of_object = false;
     })
 
 -- the record of a policy that is set now; DEFAULT has none

@@ -8,7 +8,7 @@ use Rattle.numa_mode.specs.declared.modes.Mode.{Mode}
 use Rattle.numa_mode.specs.declared.modes.Mode.TheVariants.{Default, Preferred, Bind, Interleave}
 use Rattle.numa_mode.specs.declared.modes.Mode.TheVariants.{Local, PreferredMany}
 use Rattle.numa_mode.specs.declared.modes.Mode.TheVariants.{WeightedInterleave}
-use Rattle.numa_space.specs.Lists.{Setting}
+use Rattle.numa_space.specs.Lists.{Setting, usable}
 
 -- the list has exactly the nodes with memory that pass the test, each once, and of each two the
 -- earlier precedes the other for `from`: as a rule it is nearer, or as near and lower
@@ -48,7 +48,8 @@ abbrev pub IsModeRow : Setting → Mode → ℕ → ℕ → ℕ → List ℕ →
 IsModeRow setting Default set from turn row = IsNearRow setting from row
 IsModeRow setting Local set from turn row = IsNearRow setting from row
 IsModeRow setting Preferred set from turn row = IsRowAround setting (IsLowest set) row
-IsModeRow setting Bind set from turn row = IsRow setting.machine from (has set) row
+IsModeRow setting Bind set from turn row =
+    IsRow setting.machine from (has (usable setting.allowed set)) row
 IsModeRow setting PreferredMany set from turn row =
     IsRowAndOthers setting (both set setting.allowed) from row
 IsModeRow setting Interleave set from turn row =

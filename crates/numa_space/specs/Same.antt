@@ -1,6 +1,6 @@
--- Whether two records are one: in specification (mode, flag and the user's mask), effective set and
--- home.
-use Rattle.std.specs.Prelude.{ℕ, ◌&&◌, ◌==◌, Bool, true, false, Option, Some, None}
+-- Whether two records are one: in specification (mode, flag and the user's mask), effective set,
+-- home, and whether they are of places of a shared object.
+use Rattle.std.specs.Prelude.{ℕ, ◌&&◌, ◌==◌, not, Bool, true, false, Option, Some, None}
 use Rattle.numa_mode.specs.Policy.{PolicyRecord, Specification}
 use Rattle.numa_mode.specs.declared.modes.Mode.{Mode}
 use Rattle.numa_mode.specs.declared.modes.Mode.TheVariants.{Default, Preferred, Bind, Interleave}
@@ -34,8 +34,13 @@ abbrev pub same_specification : Specification → Specification → Bool
 same_specification a b = (mode_number a.mode == mode_number b.mode)
     && (same_flag a.flag b.flag && (a.mask == b.mask))
 
+abbrev pub same_scope : Bool → Bool → Bool
+same_scope true other = other
+same_scope false other = not other
+
 abbrev pub same_record : Option PolicyRecord → Option PolicyRecord → Bool
 same_record None None = true
 same_record (Some a) (Some b) = same_specification a.spec b.spec
-    && ((a.effective == b.effective) && same_home a.home b.home)
+    && ((a.effective == b.effective) && (same_home a.home b.home
+    && same_scope a.of_object b.of_object))
 same_record _ _ = false

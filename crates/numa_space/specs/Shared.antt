@@ -1,6 +1,6 @@
 -- The policies of tasks as they are kept: each task has a number, which is the place of its record
 -- in a list that tasks share.
-use Rattle.std.specs.Prelude.{ℕ, ◌<◌, None, List, [], ◌∷◌, map, slice_index_or}
+use Rattle.std.specs.Prelude.{ℕ, ◌<◌, false, None, List, [], ◌∷◌, map, slice_index_or}
 use Rattle.numa_mode.specs.Policy.{PolicyRecord}
 use Rattle.numa_mode.specs.declared.modes.Mode.TheVariants.{Local}
 use Rattle.numa_mode.specs.declared.modes.NodeFlag.TheVariants.{Plain}
@@ -11,6 +11,7 @@ no_record = record {
   spec = record { mode = Local; flag = Plain; mask = 0 };
   effective = 0;
   home = None;
+  of_object = false;
 }
 
 -- a task and its number, with the record in the place of the number

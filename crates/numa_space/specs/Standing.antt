@@ -101,7 +101,8 @@ pub record IsNodeList (allowed : ℕ) (nodes : List ℕ) : Type 0 where
 -- a policy that is in force where these nodes are allowed: its set is inside them, where it follows
 -- them, its nodes have memory, and its home is a node of the machine
 pub record IsInForce (machine : Hardware) (allowed : ℕ) (r : PolicyRecord) : Type 0 where
-  pub inside : stays machine.rules r.spec.mode ≡ false → both r.effective allowed ≡ r.effective
+  pub inside : r.of_object ≡ false → stays machine.rules r.spec.mode ≡ false
+      → both r.effective allowed ≡ r.effective
   pub memory : both r.effective machine.memory ≡ r.effective
   pub home : ForSome r.home (λ node. node < machine.nodes)
 

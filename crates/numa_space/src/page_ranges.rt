@@ -141,7 +141,7 @@ impl Pages {
     /// Maps a span without an own policy.
     pub(crate) fn map_span(&mut self, first: u64, pages: u64, index: u64) -> Result<(), Refusal>
         requires span { IsSpan first pages }
-        requires index { index < 2 ^ 36 + 2 ^ 35 }
+        requires index { index < 2 ^ 47 }
         ensures edit { IsEdit (first_of (overlap_cause (page_at self.old.runs) first pages)
             (too_many self.old.limit (with_span first pages index None (page_at self.old.runs))))
             (with_span first pages index None (page_at self.old.runs)) self.old result self.new }

@@ -41,7 +41,7 @@ module _ {T : Type 0} where
 
   pub window-apart : (runs : List (Run T)) (from to : ℕ) (run : Run T) → AreApart 0 runs
       → IsWindow runs run.first (end_of run) from to → 0 < run.pages
-      → run.index + run.pages ≤ 2 ^ 37 → end_of run ≤ 2 ^ 35
+      → run.index + run.pages ≤ 2 ^ 48 → end_of run ≤ 2 ^ 35
       → AreApart 0 (splice runs from to (run ∷ []))
   window-apart runs from to run apart window some index low =
       joined 0 run.first from runs (run ∷ drop to runs) apart (omega arith)
@@ -56,7 +56,7 @@ module _ {T : Type 0} where
 
   pub pushed-apart : (runs : List (Run T)) (from to : ℕ) (run : Run T) → AreApart 0 runs
       → IsWindow runs run.first (end_of run) from to → length runs ≤ from → 0 < run.pages
-      → run.index + run.pages ≤ 2 ^ 37 → end_of run ≤ 2 ^ 35 → AreApart 0 (runs ++ run ∷ [])
+      → run.index + run.pages ≤ 2 ^ 48 → end_of run ≤ 2 ^ 35 → AreApart 0 (runs ++ run ∷ [])
   pushed-apart runs from to run apart window all some index low =
       subst (λ (front : List (Run T)). AreApart 0 (front ++ run ∷ [])) (take_all from runs all)
       (joined 0 run.first from runs (run ∷ []) apart (omega arith)

@@ -105,7 +105,7 @@ impl<'a> Near<'a> {
         requires place { self.now.page + far ≡ slice_index pages.now 0 }
         requires far { far < self.now.found.left }
         requires low { self.now.page + self.now.found.left ≤ 2 ^ 35 }
-        requires few { self.now.found.index + self.now.found.left ≤ 2 ^ 37 }
+        requires few { self.now.found.index + self.now.found.left ≤ 2 ^ 48 }
         requires rows { (k : ℕ) → HasRow self.now.rule.now (row_number self.now.rule.now cpu k) }
         ensures some { 0 < result }
         ensures within { result ≤ length pages.now }

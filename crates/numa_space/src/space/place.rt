@@ -1,12 +1,12 @@
 //! Questions about a page.
 ghost use Rattle.std.specs.Prelude.{◌≡◌, ◌≢◌, ◌<◌, ◌++◌, ◌&&◌, ℕ, true, not, filter, is_some};
 ghost use Rattle.std.specs.Prelude.{Option, Some, None, List, IfOk, IfSome, MatchResult};
-ghost use Rattle.numa_mask.specs.NodeSet.{has};
+ghost use Rattle.numa_mask.specs.NodeSet.{both, has};
 ghost use Rattle.numa_machine.specs.Machine.{fallback_order};
 ghost use Rattle.numa_mode.specs.Policy.{PolicyRecord, is_live};
 ghost use Rattle.numa_ranges.specs.Runs.{page_at};
 ghost use Rattle.numa_requests.specs.declared.command.Command.{Command};
-ghost use Rattle.numa_space.specs.Lists.{list_by_mode, list_for, near, node_list, within};
+ghost use Rattle.numa_space.specs.Lists.{list_by_mode, list_for, near, node_list, usable, within};
 ghost use Rattle.numa_space.specs.Pages.{resolved_policy};
 ghost use Rattle.numa_space.specs.Policies.{policy_that_counts, where_live};
 ghost use Rattle.numa_space.specs.Standing.{IsInForce, IsNodeList, StandsFor, list_in};
@@ -152,13 +152,27 @@ impl Space {
         match policy.spec().mode() {
             Mode::Default | Mode::Local => self.near(from),
             Mode::Preferred => self.near(u32::from(first_node(&set))),
-            Mode::Bind => self.nearest(&set, from),
+            Mode::Bind => self.nearest(&self.usable(&set), from),
             Mode::PreferredMany => self.nearest_before_others(&set.and(&self.allowed), from),
             Mode::Interleave => self.near(u32::from(interleave_node(&set, turn))),
             Mode::WeightedInterleave => {
                 self.near(u32::from(weighted_node(&self.weights, &set, turn)))
             }
         }
+    }
+
+    /// The nodes of a set that `Bind` keeps to: those that are allowed, or where none is, all that
+    /// are.
+    pub fn usable(&self, set: &NodeMask) -> NodeMask
+        ensures usable { result ≡ usable self.now.allowed set.now }
+        ensures some { result ≢ 0 }
+        ensures inside { both result self.now.allowed ≡ result }
+    {
+        let both = set.and(&self.allowed);
+        if both.is_empty() {
+            return self.allowed;
+        }
+        both
     }
 
     /// The allowed nodes, the nearest to a node first.

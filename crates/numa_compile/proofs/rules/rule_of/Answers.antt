@@ -8,8 +8,7 @@ use Rattle.numa_mode.specs.declared.modes.Mode.TheVariants.{WeightedInterleave}
 use Rattle.numa_space.specs.Lists.{within}
 use Rattle.numa_space.specs.Standing.{setting_in}
 use Rattle.numa_compile.specs.Rules.{GivesRows}
-use Rattle.numa_compile.proofs.AllowedLemmas.{all-allowed, filled-by, policy-allowed, policy-memory}
-use Rattle.numa_compile.proofs.AllowedLemmas.{bind-follows, interleave-follows, weighted-follows}
+use Rattle.numa_compile.proofs.AllowedLemmas.{all-allowed, filled-by, policy-memory}
 use Rattle.numa_compile.proofs.RuleSteps.{gives-policy}
 use Rattle.numa_compile.proofs.rules.rule_of.Goals as goal
 
@@ -39,15 +38,10 @@ rule_by_home-requires-in-Local-clause-home c =
     (sym c.home-in-Local.ensures.home) c.requires.in_force.home
 
 pub rule_by_home-requires-in-Bind-clause-some : goal.rule_by_home-requires-in-Bind-clause-some
-rule_by_home-requires-in-Bind-clause-some c = filled-by c.args.policy.now c.spec.result
-    c.mode.result Bind c.effective-set.result c.requires.live c.spec.ensures.spec c.mode.ensures
-    c.in-Bind.is refl c.effective-set.ensures.effective
+rule_by_home-requires-in-Bind-clause-some c = c.usable-keeps.ensures.some
 
 pub rule_by_home-requires-in-Bind-clause-allowed : goal.rule_by_home-requires-in-Bind-clause-allowed
-rule_by_home-requires-in-Bind-clause-allowed c = policy-allowed c.args.space.now.machine.rules
-    c.args.policy.now c.spec.result c.mode.result Bind c.effective-set.result
-    c.args.space.now.allowed c.requires.in_force.inside c.spec.ensures.spec c.mode.ensures
-    c.in-Bind.is (bind-follows c.args.space.now.machine.rules) c.effective-set.ensures.effective
+rule_by_home-requires-in-Bind-clause-allowed c = c.usable-keeps.ensures.inside
 
 pub rule_by_home-requires-in-Bind-clause-home : goal.rule_by_home-requires-in-Bind-clause-home
 rule_by_home-requires-in-Bind-clause-home c =
@@ -71,24 +65,18 @@ interleave_rule-requires-clause-some c = filled-by c.args.policy.now c.spec.resu
     Interleave c.effective-set.result c.requires.live c.spec.ensures.spec c.mode.ensures
     c.in-Interleave.is refl c.effective-set.ensures.effective
 
-pub interleave_rule-requires-clause-allowed : goal.interleave_rule-requires-clause-allowed
-interleave_rule-requires-clause-allowed c = policy-allowed c.args.space.now.machine.rules
-    c.args.policy.now c.spec.result c.mode.result Interleave c.effective-set.result
-    c.args.space.now.allowed c.requires.in_force.inside c.spec.ensures.spec c.mode.ensures
-    c.in-Interleave.is (interleave-follows c.args.space.now.machine.rules)
-    c.effective-set.ensures.effective
+pub interleave_rule-requires-clause-memory : goal.interleave_rule-requires-clause-memory
+interleave_rule-requires-clause-memory c = policy-memory c.args.policy.now c.effective-set.result
+    c.args.space.now.machine.memory c.requires.in_force.memory c.effective-set.ensures.effective
 
 pub weighted_rule-requires-clause-some : goal.weighted_rule-requires-clause-some
 weighted_rule-requires-clause-some c = filled-by c.args.policy.now c.spec.result c.mode.result
     WeightedInterleave c.effective-set.result c.requires.live c.spec.ensures.spec c.mode.ensures
     c.in-WeightedInterleave.is refl c.effective-set.ensures.effective
 
-pub weighted_rule-requires-clause-allowed : goal.weighted_rule-requires-clause-allowed
-weighted_rule-requires-clause-allowed c = policy-allowed c.args.space.now.machine.rules
-    c.args.policy.now c.spec.result c.mode.result WeightedInterleave c.effective-set.result
-    c.args.space.now.allowed c.requires.in_force.inside c.spec.ensures.spec c.mode.ensures
-    c.in-WeightedInterleave.is (weighted-follows c.args.space.now.machine.rules)
-    c.effective-set.ensures.effective
+pub weighted_rule-requires-clause-memory : goal.weighted_rule-requires-clause-memory
+weighted_rule-requires-clause-memory c = policy-memory c.args.policy.now c.effective-set.result
+    c.args.space.now.machine.memory c.requires.in_force.memory c.effective-set.ensures.effective
 
 pub returns-in-Default : goal.returns-in-Default
 returns-in-Default c =
@@ -121,7 +109,10 @@ returns-in-Bind c =
     gives-policy (setting_in c.args.space.now) rule c.args.policy.now c.spec.result c.mode.result
     Bind c.effective-set.result c.home-in-Bind.result c.spec.ensures.spec c.mode.ensures
     c.in-Bind.is c.effective-set.ensures.effective c.home-in-Bind.ensures.home
-    gives) c.rule_by_home-in-Bind.ensures
+    (subst (λ (n : ℕ). GivesRows c.args.space.now.machine.nodes rule
+    (λ cpu index.
+    within n (fallback_order c.args.space.now.machine (unwrap_or c.home-in-Bind.result cpu))))
+    c.usable-keeps.ensures.usable gives)) c.rule_by_home-in-Bind.ensures
 
 pub returns-in-PreferredMany : goal.returns-in-PreferredMany
 returns-in-PreferredMany c =

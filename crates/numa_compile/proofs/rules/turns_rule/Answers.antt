@@ -7,13 +7,13 @@ use Rattle.numa_plan.specs.Rows.{RuleData, InTurns}
 use Rattle.numa_compile.specs.Rules.{rows_from}
 use Rattle.numa_compile.specs.declared.reach.Reach.TheVariants.{Only}
 use Rattle.numa_compile.proofs.RowLemmas.{turns-gives}
-use Rattle.numa_compile.proofs.AllowedLemmas.{members-low}
+use Rattle.numa_compile.proofs.AllowedLemmas.{members-low_memory}
 use Rattle.numa_compile.proofs.RuleSteps.{gives-is}
 use Rattle.numa_compile.proofs.rules.turns_rule.Goals as goal
 
 pub rows_by_member-requires : goal.rows_by_member-requires
-rows_by_member-requires c = members-low c.args.space.now c.args.set.now c.requires.ready
-    c.requires.allowed
+rows_by_member-requires c = members-low_memory c.args.space.now c.args.set.now c.requires.ready
+    c.requires.memory
 
 pub returns : goal.returns
 returns c =
@@ -36,5 +36,5 @@ returns c =
     (slice_index (members c.args.set.now)
     (slice_index c.args.cycle.items (turn_at index % length c.args.cycle.items)))) is
     (turns-gives c.args.space.now c.args.set.now c.weight.result c.args.cycle.items c.requires.ready
-    c.requires.some c.requires.allowed c.requires.cycle c.requires.places
+    c.requires.some c.requires.cycle c.requires.places
     (c.weight.ensures.weight ∙ ap weight_of c.allowed.ensures.allowed))

@@ -5,7 +5,7 @@ use Rattle.numa_mask.proofs.Images.{weight-some}
 use Rattle.numa_machine.specs.Weights.{NodeWeights, weight_at, total_weight}
 use Rattle.numa_space.specs.Standing.{setting_in}
 use Rattle.numa_compile.specs.Rules.{places_from}
-use Rattle.numa_compile.proofs.AllowedLemmas.{allowed-small}
+use Rattle.numa_compile.proofs.AllowedLemmas.{memory-small}
 use Rattle.numa_compile.proofs.RuleSteps.{gives-weighted, weighted-below, weighted-length}
 use Rattle.numa_compile.proofs.rules.weighted_rule.Goals as goal
 
@@ -15,8 +15,8 @@ some set cycle each small filled = omega (arith, each, weight-some set small fil
 
 pub turns_rule-requires-clause-cycle : goal.turns_rule-requires-clause-cycle
 turns_rule-requires-clause-cycle c = some c.args.set.now c.in_ok-cycle.cycle.items
-    c.in_ok-cycle.ensures.each (allowed-small c.args.space.now c.args.set.now c.requires.ready
-    c.requires.allowed) c.requires.some
+    c.in_ok-cycle.ensures.each (memory-small c.args.space.now c.args.set.now c.requires.ready
+    c.requires.memory) c.requires.some
 
 pub turns_rule-requires-clause-places : goal.turns_rule-requires-clause-places
 turns_rule-requires-clause-places c = weighted-below (weight_at c.weights.result.now) c.args.set.now
@@ -31,7 +31,7 @@ returns c =
     c.weights.ensures.weights in
     let filled : 0 < length c.in_ok-cycle.cycle.items =
     some c.args.set.now c.in_ok-cycle.cycle.items c.in_ok-cycle.ensures.each
-    (allowed-small c.args.space.now c.args.set.now c.requires.ready c.requires.allowed)
+    (memory-small c.args.space.now c.args.set.now c.requires.ready c.requires.memory)
     c.requires.some in
     let total : 0 < total_weight weight c.args.set.now =
     omega (

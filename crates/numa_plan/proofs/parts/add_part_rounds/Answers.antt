@@ -22,7 +22,7 @@ returns c node small =
       c.add_places.ensures node small,
       c.add_parts.ensures node small,
       count-rounds nodes node c.args.index c.args.pages times c.requires.part
-          (within c.args.pages (length nodes)),
+          c.requires.last (within c.args.pages (length nodes)),
       ap (λ (cycle : List ℕ). count_pages (part_is cycle node) c.args.index c.args.pages)
           c.nodes-nodes.ensures.is,
       ap (λ (cycle : List ℕ). count_pages (part_is cycle node) (c.args.index + done)

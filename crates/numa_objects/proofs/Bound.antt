@@ -1,0 +1,197 @@
+-- Objects of which a span of places gets another policy.
+use Rattle.std.proofs.Common.{◌≡◌, ℕ, zero, suc, ◌+◌, ◌-◌, ◌*◌, ◌/◌, ◌%◌, ◌^◌, ◌<◌, ◌≤◌, true, false}
+use Rattle.std.proofs.Common.{Option, Some, None, List, [], ◌∷◌, length, map, eqb, refl, sym, ap}
+use Rattle.std.proofs.Common.{◌∙◌, arith, inl, inr}
+use Rattle.std.specs.Prelude.{slice_get, slice_set, if◌then◌else◌, option_and_then, All}
+use Rattle.std.proofs.lemmas.Bool.{cases_Bool, cases_lt, eq-eqb, eqb-true, le-leb}
+use Rattle.std.proofs.lemmas.Bool.{le-ltb, lt-leb, lt-ltb}
+use Rattle.numa_mode.specs.Policy.{PolicyRecord}
+use Rattle.numa_ranges.specs.Runs.{in_pages}
+use Rattle.numa_ranges.proofs.Apart.{in_pages-true, in_pages-below, in_pages-above}
+use Rattle.numa_objects.specs.Changes.{AreBound, AreOfObject, bound_policy, identity}
+use Rattle.numa_objects.specs.Objects.{ObjectData, policy_in_turn, policy_of, shared_policy}
+use Rattle.numa_objects.specs.Spots.{is_shared, slot_of, turn_of}
+
+-- ---- indexes
+
+pub shared-from : (index : ℕ) → 2 ^ 37 ≤ index → is_shared index ≡ true
+unfolding is_shared
+shared-from index high = le-leb (2 ^ 37) index high
+
+pub shared-below : (index : ℕ) → index < 2 ^ 37 → is_shared index ≡ false
+unfolding is_shared
+shared-below index low = lt-leb (2 ^ 37) index low
+
+pub shared-end : (index : ℕ) → is_shared index ≡ true → 2 ^ 37 ≤ index
+shared-end index is =
+    elim (cases_lt index (2 ^ 37)) [
+      | inl low ↦ absurd (let odd : true ≡ false = sym is ∙ shared-below index low in cc)
+      | inr high ↦ high
+    ]
+
+-- an index is that of its slot and turn
+pub index-whole : (index : ℕ) → 2 ^ 37 ≤ index
+    → index ≡ 2 ^ 37 + slot_of index * 2 ^ 36 + turn_of index
+unfolding slot_of turn_of
+index-whole index high = omega (arith, high)
+
+pub turn-few : (index : ℕ) → turn_of index < 2 ^ 36
+unfolding turn_of
+turn-few index = omega arith
+
+-- so many further in the slot
+pub slot-later : (index q : ℕ) → 2 ^ 37 ≤ index → turn_of index + q < 2 ^ 36
+    → slot_of (index + q) ≡ slot_of index
+unfolding slot_of turn_of
+slot-later index q high low = omega (arith, high, low)
+
+pub turn-later : (index q : ℕ) → 2 ^ 37 ≤ index → turn_of index + q < 2 ^ 36
+    → turn_of (index + q) ≡ turn_of index + q
+unfolding slot_of turn_of
+turn-later index q high low = omega (arith, high, low)
+
+-- ---- a list with another element
+
+module _ {X : Type 0} where
+  pub get-set : (xs : List X) (i : ℕ) (x : X) → i < length xs → slice_get (slice_set xs i x) i
+      ≡ Some x
+  get-set [] i x low = absurd (omega arith)
+  get-set (y ∷ xs) zero x low = refl
+  get-set (y ∷ xs) (suc i) x low = get-set xs i x (omega arith)
+
+  pub get-other : (xs : List X) (i j : ℕ) (x : X) → (i ≡ j → ⊥)
+      → slice_get (slice_set xs i x) j ≡ slice_get xs j
+  get-other [] i j x apart = refl
+  get-other (y ∷ xs) zero zero x apart = absurd (apart refl)
+  get-other (y ∷ xs) zero (suc j) x apart = refl
+  get-other (y ∷ xs) (suc i) zero x apart = refl
+  get-other (y ∷ xs) (suc i) (suc j) x apart = get-other xs i j x (λ same. apart (ap suc same))
+
+  pub there-low : (xs : List X) (i : ℕ) (x : X) → slice_get xs i ≡ Some x → i < length xs
+  there-low [] i x there = absurd (cc)
+  there-low (y ∷ xs) zero x there = omega arith
+  there-low (y ∷ xs) (suc i) x there = omega (arith, there-low xs i x there)
+
+  pub map-set : {Y : Type 0} (f : X → Y) (xs : List X) (i : ℕ) (x y : X) → slice_get xs i ≡ Some y
+      → f x ≡ f y → map f (slice_set xs i x) ≡ map f xs
+  map-set f [] i x y there same = refl
+  map-set f (z ∷ xs) zero x y there same =
+      let is : Some z ≡ Some y = there in
+      let here : z ≡ y = cc in
+      ap (λ v. v ∷ map f xs) (same ∙ ap f (sym here))
+  map-set f (z ∷ xs) (suc i) x y there same = ap (λ l. f z ∷ l) (map-set f xs i x y there same)
+
+-- ---- the policies
+
+module _ (old : List ObjectData) (index pages slot : ℕ) (policy : Option PolicyRecord)
+    (object changed : ObjectData) (some : 0 < pages) (shared : 2 ^ 37 ≤ index)
+    (is : slot ≡ slot_of index) (there : slice_get old slot ≡ Some object)
+    (from : object.inode ≤ turn_of index)
+    (to : turn_of index - object.inode + pages ≤ 2 ^ 35) (inode : object.inode < 2 ^ 35)
+    (same : identity changed ≡ identity object)
+    (policies : (place : ℕ) → policy_of changed place
+    ≡ bound_policy (turn_of index - object.inode) pages policy (policy_of object) place)
+  where
+    new : List ObjectData
+    new = slice_set old slot changed
+
+    same-inode : changed.inode ≡ object.inode
+    same-inode = ap (λ (p : ℕ × ℕ). p.1) same
+
+    -- in the slot
+    in-slot : (other : ℕ) → 2 ^ 37 ≤ other → slot_of other ≡ slot_of index
+        → policy_in_turn changed (turn_of other)
+        ≡ (if in_pages index pages other then policy else policy_in_turn object (turn_of other))
+    in-slot other high here =
+        let a = index-whole index shared in
+        let b = index-whole other high in
+        let scaled : slot_of other * 2 ^ 36 ≡ slot_of index * 2 ^ 36 = ap (λ n. n * 2 ^ 36) here in
+        elim (cases_lt (turn_of other) object.inode) [
+          | inl low ↦
+              let below : other < index = omega (arith, a, b, scaled, low, from) in
+              rw (
+                same-inode,
+                lt-ltb (turn_of other) object.inode low,
+                in_pages-below index pages other below,
+              ) refl
+          | inr place ↦
+              let span : in_pages (turn_of index - object.inode) pages
+              (turn_of other - object.inode) ≡ in_pages index pages other =
+              elim (cases_lt other index) [
+                | inl before ↦
+                    in_pages-below (turn_of index - object.inode) pages
+                    (turn_of other - object.inode) (omega (arith, a, b, scaled, before, place))
+                    ∙ sym (in_pages-below index pages other before)
+                | inr after ↦ elim (cases_lt other (index + pages)) [
+                  | inl inside ↦
+                      in_pages-true (turn_of index - object.inode) pages
+                      (turn_of other - object.inode) (omega (arith, a, b, scaled, after, from))
+                      (omega (arith, a, b, scaled, inside, from, place))
+                      ∙ sym (in_pages-true index pages other after inside)
+                  | inr past ↦
+                      in_pages-above (turn_of index - object.inode) pages
+                      (turn_of other - object.inode) (omega (arith, a, b, scaled, past, from, place))
+                      ∙ sym (in_pages-above index pages other past)
+                ]
+              ] in
+              rw (same-inode, le-ltb (turn_of other) object.inode place)
+              (policies (turn_of other - object.inode)
+              ∙ ap (λ b. if b then policy else policy_of object (turn_of other - object.inode)) span)
+        ]
+
+    -- in another slot no index is of the span
+    out-of-slot : (other : ℕ) → 2 ^ 37 ≤ other → (slot_of index ≡ slot_of other → ⊥)
+        → in_pages index pages other ≡ false
+    out-of-slot other high apart =
+        let a = index-whole index shared in
+        let b = index-whole other high in
+        let c = turn-few index in
+        let d = turn-few other in
+        elim (cases_lt other index) [
+          | inl before ↦ in_pages-below index pages other before
+          | inr after ↦ elim (cases_lt other (index + pages)) [
+            | inr past ↦ in_pages-above index pages other past
+            | inl inside ↦
+                let far : other ≡ index + (other - index) = omega (arith, after) in
+                let within : turn_of index + (other - index) < 2 ^ 36 =
+                omega (arith, inside, from, to, inode) in
+                absurd (apart (sym (ap slot_of far ∙ slot-later index (other - index) shared within)))
+          ]
+        ]
+
+    slots : (other : ℕ) → 2 ^ 37 ≤ other → shared_policy new other
+        ≡ (if in_pages index pages other then policy else shared_policy old other)
+    unfolding new
+    slots other high =
+        elim (cases_Bool (eqb (slot_of other) (slot_of index))) [
+          | inl t ↦
+              let here : slot_of other ≡ slot_of index = eqb-true (slot_of other) (slot_of index) t in
+              let at : slice_get (slice_set old slot changed) (slot_of other) ≡ Some changed =
+              ap (slice_get (slice_set old slot changed)) (here ∙ sym is)
+              ∙ get-set old slot changed (there-low old slot object there) in
+              let was : slice_get old (slot_of other) ≡ Some object =
+              ap (slice_get old) (here ∙ sym is) ∙ there in
+              rw (shared-from other high, at, was) (in-slot other high here)
+          | inr f ↦
+              let apart : (slot_of index ≡ slot_of other → ⊥) = λ same.
+              let t : eqb (slot_of other) (slot_of index) ≡ true =
+              eq-eqb (slot_of other) (slot_of index) (sym same) in cc in
+              let beside : slice_get (slice_set old slot changed) (slot_of other)
+              ≡ slice_get old (slot_of other) =
+              get-other old slot (slot_of other) changed (λ same. apart (sym is ∙ same)) in
+              rw (shared-from other high, beside, out-of-slot other high apart) refl
+        ]
+
+    pub are-bound : AreBound old index pages policy (slice_set old slot changed)
+    unfolding new
+    are-bound = record {
+      identities = map-set identity old slot changed object there same;
+      policies = λ other. elim (cases_lt other (2 ^ 37)) [
+        | inl low ↦
+            rw (
+              shared-below other low,
+              in_pages-below index pages other (omega (arith, low, shared)),
+            ) refl
+        | inr high ↦ slots other high
+      ];
+    }

@@ -1,0 +1,17 @@
+-- What is counted, and what the runs that are left will add, is what all runs add.
+use Rattle.std.proofs.Common.{◌≡◌, ℕ, ◌+◌, ◌≤◌, List, ◌++◌, length}
+use Rattle.numa_mode.specs.Policy.{PolicyRecord}
+use Rattle.numa_ranges.specs.Runs.{AreApart}
+use Rattle.numa_ranges.specs.declared.run.Run.{Run}
+use Rattle.numa_objects.specs.Counting.{behinds, ranges_with}
+use Rattle.numa_objects.proofs.counting.add_behinds.Given as goal
+
+abbrev pub invariant-loop-run : goal.invariant-loop-run
+invariant-loop-run l = record {
+  ranges : (rest : List (Run PolicyRecord))
+      → ranges_with l.tally (behinds l.end l.run-iterator ++ rest)
+      ≡ ranges_with l.initial.tally (behinds l.end l.policies.runs ++ rest);
+  count : l.tally.count + length l.run-iterator
+      ≤ l.initial.tally.count + length l.policies.runs;
+  apart : (low : ℕ) × AreApart low l.run-iterator;
+}
