@@ -126,7 +126,7 @@ impl Space {
 
     /// The list of a policy in force, for a fault on a node, at a page with this index: where nodes
     /// take turns, that of its turn.
-    fn list_of(&self, policy: Option<Record>, cpu: u32, index: u64) -> ArrayVec<u8, 256>
+    pub fn list_of(&self, policy: Option<Record>, cpu: u32, index: u64) -> ArrayVec<u8, 256>
         requires cpu { cpu < self.now.machine.nodes }
         requires in_force { IfSome policy (λ r. IsInForce self.now.machine self.now.allowed r
             × (is_live r ≡ true)) }
