@@ -3,7 +3,7 @@
 use Rattle.std.proofs.Common.{◌≡◌, ℕ, Result, Ok, Err, List, [], ◌∷◌, length, refl}
 use Rattle.numa_mask.specs.NodeSet.{members}
 use Rattle.numa_machine.specs.Machine.{fallback_order}
-use Rattle.numa_machine.specs.Sizes.{is_part, turn_at}
+use Rattle.numa_machine.specs.Sizes.{is_part, is_shared, turn_at}
 use Rattle.numa_machine.specs.Weights.{interleave_node}
 use Rattle.numa_machine.specs.declared.page_size.PageSize.TheVariants.{Small}
 use Rattle.numa_mode.specs.declared.modes.Mode.TheVariants.{Bind, PreferredMany, Interleave}
@@ -68,7 +68,8 @@ maps-row : answers (four_on (with_frames (8 ∷ 8 ∷ 8 ∷ 8 ∷ []))) (publish
     ∷ won 3 1 0x14 2 0 0
     ∷ won 3 1 0x15 2 1 0
     ∷ [])
-unfolding members fallback_order interleave_node turn_at is_part list_at result_of_touch maps
+unfolding members fallback_order interleave_node turn_at is_part is_shared list_at result_of_touch
+    maps
 maps-row = refl
 
 -- ---- what is refused, and nodes without frames: they are passed over, and their places in the

@@ -167,6 +167,7 @@ preferring nodes = record {
   spec = record { mode = PreferredMany; flag = Plain; mask = nodes };
   effective = nodes;
   home = None;
+  of_object = false;
 }
 
 named-alone : named_by (Some (preferring 2)) (1 ∷ 0 ∷ []) ≡ 1 ∷ []

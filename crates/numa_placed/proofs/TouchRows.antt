@@ -5,7 +5,7 @@ use Rattle.std.specs.Prelude.{◌==◌, ◌%◌, if◌then◌else◌}
 use Rattle.std.specs.List.{range_with_len}
 use Rattle.numa_mask.specs.NodeSet.{members}
 use Rattle.numa_machine.specs.Machine.{fallback_order}
-use Rattle.numa_machine.specs.Sizes.{is_part, turn_at}
+use Rattle.numa_machine.specs.Sizes.{is_part, is_shared, turn_at}
 use Rattle.numa_machine.specs.Weights.{interleave_node}
 use Rattle.numa_maps.specs.Residents.{Kept}
 use Rattle.numa_mode.specs.declared.modes.Mode.TheVariants.{Interleave}
@@ -64,7 +64,7 @@ turns : ℕ → List ℕ
 turns page = if page % 2 == 0 then 0 ∷ 1 ∷ [] else 1 ∷ 0 ∷ []
 
 lists-turn : map (nodes_in space 1 0) (range_with_len 4 3) ≡ map turns (range_with_len 4 3)
-unfolding members fallback_order interleave_node turn_at is_part space turns
+unfolding members fallback_order interleave_node turn_at is_part is_shared space turns
 lists-turn = refl
 
 touched : Asked
