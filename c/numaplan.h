@@ -342,7 +342,8 @@ uint32_t np_core_map(np_core *core, uint64_t start, uint64_t length, uint64_t of
  * also where another call would change a part of one alone.
  *
  * All calls name and count pages of 4 KiB, of which such a page is 512, its parts; only
- * np_core_explain and its text count the index in pages of 2 MiB, and np_core_maps counts these.
+ * np_core_explain and its text count the index in pages of 2 MiB, and np_core_maps counts these, as
+ * np_core_predict_text does in a range where each node has whole ones.
  * Each part has the list of nodes that a kernel goes by for its page. But there are no pools (an
  * np_pages and an np_host have them: np_pages_map_huge, np_host_map_huge_for), and where pages are
  * placed each part goes by itself, as in no kernel: np_core_touch and all that workers do, np_core_fill and other calls with free pages,

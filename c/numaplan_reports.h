@@ -11,8 +11,9 @@
  * leaves (at, populate, moves), and then by lines `at START LENGTH NODE`, in a host `in P at ..`,
  * of a further text `at`; other lines of that text are passed over. The other calls are about first
  * touches, and judge lines `at` as np_script_run does; np_explain says too where the lines of a
- * script put its page. Of pages of 2 MiB, which only np_script_run and np_script_line take from
- * pools, a message says that each counts as 512 of 4 KiB, or that those that are there are left out.
+ * script put its page. Of pages of 2 MiB, which only np_script_run, np_script_line, np_predict_at and
+ * np_predict with free pages take from pools, a message says how they count: each as 512 of 4 KiB, in
+ * a row as one, or that those that are there are left out.
  *
  * Rooms. The answer stands at the start of `text`, and the messages after it. `report` gets how
  * many bytes each has. NP_NO_ROOM where both together are longer than the room: then `report` gives

@@ -187,8 +187,8 @@ class Core(CoreReports):
         """Maps `length` bytes of unmapped pages from address `start` on. The first page has the
         index `offset`, in pages; without one start / 4096, as private anonymous memory has. With
         `huge` they are pages of 2 MiB (MAP_HUGETLB), whose offset without one is 0. All else but
-        `maps` counts each as 512 pages of 4 KiB; there are no pools, and where pages are placed each
-        4 KiB goes by itself, as in no kernel."""
+        `maps`, and rows of a prediction as text, counts each as 512 pages of 4 KiB; there are no
+        pools, and where pages are placed each 4 KiB goes by itself, as in no kernel."""
         start = u64("start", start)
         if offset is None:
             offset = 0 if huge else start // 4096

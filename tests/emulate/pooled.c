@@ -374,6 +374,34 @@ static void files(void) {
     WANT(node(one), 0);
 }
 
+/* Files of a mounted hugetlbfs, which have their pages as long as they have a name. */
+static void mounted(void) {
+    struct statfs of_file;
+    WANT(told(open("/dev/hugepages", O_RDWR)), -EISDIR);
+    int file = open("/dev/hugepages/table", O_RDWR | O_CREAT | O_EXCL, 0600);
+    WANT(fstatfs(file, &of_file), 0);
+    WANT(of_file.f_type, 0x958458f6);
+    WANT(told((long)mmap(A, 2 * SIZE, RIGHTS, MAP_SHARED | MAP_FIXED_NOREPLACE, file, 0)), A);
+    WANT(bind_at(A, 2 * SIZE, BIND, is_one ? 1 : 8, 0), 0);
+    touch(A + SIZE);
+    WANT(node(A + SIZE), is_one ? 0 : 3);
+    const char *name = is_one ? "240000000 bind:0 file=/dev/hugepages/table huge "
+                              : "240000000 bind:3 file=/dev/hugepages/table huge ";
+    WANT(strncmp(row("/proc/self/numa_maps", "240000000"), name, strlen(name)), 0);
+    WANT(munmap(A, 2 * SIZE), 0);
+    close(file);
+    POOLS("N0=3/3 N1=2/2 N2=0/0 N3=3/4 reserved 1");
+    file = open("/dev/hugepages/table", O_RDWR);
+    char *some = mmap(NULL, SIZE, RIGHTS, MAP_SHARED, file, SIZE);
+    WANT(some[0], 1);
+    WANT(unlinkat(AT_FDCWD, "/dev/hugepages/table", 0), 0);
+    WANT(told(open("/dev/hugepages/table", O_RDWR)), -ENOENT);
+    WANT(munmap(some, SIZE), 0);
+    POOLS("N0=3/3 N1=2/2 N2=0/0 N3=3/4 reserved 1");
+    close(file);
+    POOLS("N0=3/3 N1=2/2 N2=0/0 N3=4/4 reserved 0");
+}
+
 /* ---- System V's memory: reserved as it is made, there until it is removed and nobody has it attached */
 
 static void segments(void) {
@@ -449,6 +477,8 @@ int main(int count, char **words) {
         segments();
     else if (!strcmp(word, "files"))
         files();
+    else if (!strcmp(word, "mounted"))
+        mounted();
     else if (!strcmp(word, "lost"))
         lost(0);
     else if (!strcmp(word, "bus"))

@@ -10,7 +10,7 @@ from time import monotonic_ns
 
 import numaplan
 
-from . import huge, marks, tracing
+from . import huge, marks, mounted, tracing
 from .calls import ANSWERED
 from .common import pages_on
 from .cpus import OF_MADE_UP
@@ -28,6 +28,7 @@ from .words import list_text
 
 SHARES_MEMORY, WAITS = 0x100, 0x4000  # CLONE_VM, CLONE_VFORK
 GONE = (ProcessLookupError, FileNotFoundError)
+PATHS = ("open", "openat", "unlink", "unlinkat")  # calls whose path may stand for another one
 
 
 def fault_text():
@@ -104,7 +105,7 @@ class Emulator:
         if self.has_pools:
             found["mmap"] = None  # (a file may be one of huge pages)
         if self.machine.pools is not None:
-            found |= huge.STOPS_OF_POOLS
+            found |= huge.STOPS_OF_POOLS | dict.fromkeys(PATHS)
         return found | dict.fromkeys(marks.FOLLOWED if self.marks else (), (0, False, self.marks))
 
     def tell(self, text):
@@ -199,14 +200,17 @@ class Emulator:
         verb = "nodes {} aren't" if len(absent) > 1 else "node {} isn't"
         return f"{verb.format(list_text(absent))} allowed (cpuset {list_text(self.machine.allowed)})"
 
-    def redirect(self, task, registers):
-        """A file that is made up is opened in place of another one: its name is put below the stack."""
-        at, folder = ("rdi", HERE) if NAMES[registers.call()] == "open" else ("rsi", registers.rdi % 2**32)
+    def redirect(self, task, name, registers):
+        """A file that is made up is opened in place of another one: its name is put below the stack. One of a mounted
+        hugetlbfs has a place of its own, where it is unlinked too."""
+        at, folder = ("rsi", registers.rdi % 2**32) if name.endswith("at") else ("rdi", HERE)
         path = getattr(registers, at)
         try:
-            made = file_for(self, task, from_root(task.number, folder, text_at(task.number, path)))
+            asked = from_root(task.number, folder, text_at(task.number, path))
         except Failed:
             return None
+        opened = file_for(self, task, asked) if name.startswith("open") else None
+        made = opened or mounted.path_for(self, asked)
         if made is None:
             return None
         below = (registers.rsp - 128 - len(made) - 64) & -16
@@ -217,7 +221,10 @@ class Emulator:
         def restore(after):
             setattr(after, at, path)
             set_registers(task.number, after)
-            os.unlink(made)
+            if opened:
+                os.unlink(made)
+            elif name.startswith("open") and after.rax < 2**31:
+                mounted.has_opened(self, task, after.rax, asked, made)
 
         return restore
 
@@ -239,8 +246,8 @@ class Emulator:
         result = None
         if name in self.answered:
             result = self.answer(task, registers)
-        elif name in ("open", "openat"):
-            task.at_end = self.redirect(task, registers)
+        elif name in PATHS:
+            task.at_end = self.redirect(task, name, registers)
         elif name in self.followed:
             result = self.follow(task, name, registers)
         if result is not None:

@@ -262,7 +262,7 @@ def mapped(all_, task, *words):
     if length > TOP or flags & (MAP_FIXED | NO_REPLACE) and start + length > TOP:
         return -errno.ENOMEM
     all_.wake(task)
-    is_shared, made_up_name = bool(flags & MAP_SHARED), "/anon_hugepage (deleted)" if key is None else ""
+    is_shared, made_up_name = bool(flags & MAP_SHARED), "/anon_hugepage (deleted)" if key is None else made.name_of(key)
     kind = Kind(key if is_shared else None, 0, key is not None and not is_shared, made_up_name, not flags & NO_RESERVE)
     needed = needed_pages(made, kind, offset, length)
     why = lacking(all_, task, needed) if needed else None

@@ -36,6 +36,8 @@ class Pools:
         self.placed = Counter()  # by node how many were taken, as they were first touched
         self.objects, self.files = {}, {}  # by key what an object has reserved; by device and inode the keys of files
         self.segments = {}  # System V's: by number (key, bytes)
+        self.folders = None  # where hugetlbfs is mounted, once that matters
+        self.named = {}  # by key of a file there what stands for its path, and the path
         self.turns = counted()
         self.spaces = set()  # those that have such areas
         self.held = set()  # the keys of objects that are mapped elsewhere just now
@@ -81,6 +83,14 @@ class Pools:
         self.objects[key] = Kept()
         return key
 
+    def is_named(self, key):
+        return key in self.named and os.path.exists(self.named[key][0])
+
+    def name_of(self, key):
+        """What maps calls a file of a mounted hugetlbfs; nothing of others."""
+        name = self.named[key][1] if key in self.named else ""
+        return name if not name or self.is_named(key) else f"{name} (deleted)"
+
     def end_unused(self, machine, tasks=()):
         """Objects that no process maps any more end, and files that none has open either."""
         mapped = self.held | {kind.key for space in self.spaces for _, _, kind in space.made.areas}
@@ -89,7 +99,7 @@ class Pools:
         segments = {key: number for number, (key, _) in self.segments.items() if key in unused}
         opened = files_of(tasks) if files else ()
         for key in unused:
-            is_open = key in files and (not tasks or files[key] in opened)
+            is_open = key in files and (not tasks or files[key] in opened or self.is_named(key))
             if not is_open and not (key in segments and is_segment(segments[key])):
                 self.files.pop(files.get(key), None)
                 self.segments.pop(segments.get(key), None)

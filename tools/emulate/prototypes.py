@@ -15,7 +15,7 @@ WORDS = {
     "get_mempolicy": "place place long address asked", "migrate_pages": "pid most nodes nodes",
     "move_pages": "pid count pages targets place moves", "set_mempolicy_home_node": "address length node long",
     "getcpu": "place place", "rseq": "address int int int", "sched_setaffinity": "pid int place",
-    "sched_getaffinity": "pid int place", "open": "place int int", "openat": "int place int int",
+    "sched_getaffinity": "pid int place", "open": "place int int", "openat": "int place int int", "unlink": "place", "unlinkat": "int place int",
     "mmap": "address length long long long long", "munmap": "address length", "brk": "address",
     "mremap": "address length length long address", "madvise": "address length int", "shmget": "int long int",
     "shmat": "int address int", "shmdt": "address", "prctl": "int long long long long", "set_tid_address": "place",

@@ -21,7 +21,7 @@ OPTIONS = 1 | 1 << FORK | 1 << VFORK | 1 << CLONE | 1 << EXEC | 1 << EXIT | 1 <<
 CALLS = {
     "write": 1, "open": 2, "close": 3, "mmap": 9, "munmap": 11, "brk": 12, "writev": 20, "mremap": 25, "madvise": 28,
     "shmget": 29, "shmat": 30, "dup": 32, "dup2": 33, "execve": 59, "shmdt": 67, "fcntl": 72, "ftruncate": 77,
-    "fstatfs": 138, "fallocate": 285, "memfd_create": 319,
+    "unlink": 87, "fstatfs": 138, "unlinkat": 263, "fallocate": 285, "memfd_create": 319,
     "prctl": 157, "tkill": 200, "sched_setaffinity": 203, "sched_getaffinity": 204, "set_tid_address": 218, "mbind": 237,
     "set_mempolicy": 238, "get_mempolicy": 239, "migrate_pages": 256, "openat": 257,
     "move_pages": 279, "dup3": 292, "getcpu": 309, "execveat": 322, "rseq": 334, "close_range": 436,

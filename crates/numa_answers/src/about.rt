@@ -33,6 +33,8 @@ pub struct About<'a> {
     pub stay: bool,
     /// Whether it tells how pages of 2 MiB count.
     pub tells_huge: bool,
+    /// Whether they come from their pools.
+    pub from_pools: bool,
     /// The lines that were added.
     pub added: Added<'a>,
 }
@@ -51,6 +53,7 @@ impl<'a> About<'a> {
             touch,
             stay: false,
             tells_huge: false,
+            from_pools: false,
             added,
         }
     }
@@ -67,6 +70,11 @@ impl<'a> About<'a> {
             tells_huge: maps_huge(subject),
             ..self
         }
+    }
+
+    /// The same where pages of 2 MiB come from their pools, or else go as if these never emptied.
+    pub fn pooling(self, from_pools: bool) -> About<'a> {
+        About { from_pools, ..self }
     }
 }
 
@@ -189,9 +197,15 @@ fn put_huge(text: &mut Written, about: &About<'_>) {
     if !about.tells_huge {
         return;
     }
-    text.put(match about.touch {
-        Some(_) => b"Each page of 2 MiB counts as 512 of 4 KiB, whatever pools have\n".as_slice(),
-        None => b"Pages of 2 MiB don't count\n",
+    if about.touch.is_none() {
+        text.put(b"Pages of 2 MiB don't count\n");
+        return;
+    }
+    text.put(b"Each page of 2 MiB counts as 512 of 4 KiB, ");
+    text.put(if about.from_pools {
+        b"and comes from its pool\n".as_slice()
+    } else {
+        b"whatever pools have\n"
     });
 }
 

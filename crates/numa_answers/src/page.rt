@@ -79,9 +79,8 @@ pub fn view_text<W: Watch>(
     view_with(alloc, asked, number, &prediction)
 }
 
-/// One of several predictions, as [`shared_text`], but in place of a page its data, where no page
-/// is there: the object of the state as its member `before`. With `tells_left` the text has what
-/// named nodes have left then.
+/// One of several predictions, as [`shared_text`], but in place of a page its data: the object of
+/// the state as its member `before`. With `tells_left` the text has what named nodes have left then.
 ///
 /// # Errors
 /// As [`shared_text`].
@@ -98,7 +97,7 @@ pub fn shared_answer<W: Watch>(
 {
     let told: &[FreePages] = if tells_left { asked.free } else { &[] };
     let text = shared_text(alloc, asked, format, told, account, watch)?;
-    let (None, Format::Html(number)) = (asked.placed, format) else {
+    let Format::Html(number) = format else {
         return Ok(text);
     };
     let view = view_with(alloc, asked, number, &text)?;

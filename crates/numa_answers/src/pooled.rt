@@ -124,19 +124,24 @@ pub struct FromPools {
 }
 
 impl FromPools {
-    /// The number of all pages.
-    pub fn pages(&self) -> u64 {
-        let mut sum = self.exhausted;
+    /// The number of pages that a node gave.
+    fn given(&self) -> u64 {
+        let mut sum = 0u64;
         for node in 0..256usize {
             sum = sum.saturating_add(self.on[node]);
         }
         sum
     }
+
+    /// The number of all pages.
+    pub fn pages(&self) -> u64 {
+        self.given().saturating_add(self.exhausted)
+    }
 }
 
 /// Writes a line of them, in the form of those of other pages.
 fn put_line(text: &mut Written, said: &FromPools) {
-    text.put_form(b"pools anon=$", &[said.pages()]);
+    text.put_form(b"pools anon=$", &[said.given()]);
     for node in 0..256usize {
         if said.on[node] > 0 {
             text.put_form(b" N$=$", &[node as u64, said.on[node]]);
@@ -169,7 +174,7 @@ fn put_member(text: &mut Written, whole: &[u8], said: &FromPools) {
         return;
     };
     let mut inner = Object::new(text.alloc());
-    inner.put_number("anon", said.pages());
+    inner.put_number("anon", said.given());
     inner.put_items("nodes", nodes_of(text.alloc(), said));
     inner.put_number("exhausted", said.exhausted);
     inner.put_number("kernelpagesize_kB", 2_048);
@@ -179,8 +184,30 @@ fn put_member(text: &mut Written, whole: &[u8], said: &FromPools) {
     text.put(b"}\n");
 }
 
+/// Writes records of them behind others, each of which may begin with a process.
+fn put_records(text: &mut Written, whole: &[u8], said: &FromPools) {
+    let given = said.given();
+    let by_process = whole.strip_prefix(b"process,").is_some();
+    let front = if by_process {
+        b",,,pools,".as_slice()
+    } else {
+        b",,pools,"
+    };
+    text.put(whole);
+    for node in 0..256usize {
+        if said.on[node] > 0 {
+            text.put(front);
+            text.put_form(b"$,$,$\n", &[given, node as u64, said.on[node]]);
+        }
+    }
+    if said.exhausted > 0 {
+        text.put(front);
+        text.put_form(b"$,,$\n", &[given, said.exhausted]);
+    }
+}
+
 /// A prediction that tells where pages of 2 MiB would come from: a text in one more line, an object
-/// in one more member. Others are as they are.
+/// in one more member, records in some more. Others are as they are.
 ///
 /// # Errors
 /// `AllocError`: out of memory.
@@ -197,6 +224,7 @@ pub fn with_pools(
             put_line(&mut text, said);
         }
         Format::Json => put_member(&mut text, whole.as_slice(), said),
+        Format::Csv => put_records(&mut text, whole.as_slice(), said),
         _ => return Ok(whole),
     }
     drop(whole);

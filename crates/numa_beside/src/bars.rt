@@ -14,7 +14,7 @@ static LETTERS: &[u8; 36] = b"0123456789abcdefghijklmnopqrstuvwxyz";
 
 const LACKING: u8 = b'!';
 
-/// Whether a line is the sum of others, or counts pages of another size.
+/// Whether a line is a sum, of others or of pages of 2 MiB.
 fn is_total(line: &[u8]) -> bool {
     line.starts_with(b"total ") || line.starts_with(b"pools ")
 }

@@ -3,7 +3,11 @@
 use crate::ranges::number_in;
 use numa_mask::Parts;
 
-/// What a line counts: the pages that are, or come to be, on each node, and those without room.
+/// The pages of 4 KiB of one of 2 MiB.
+const PARTS: u64 = 512;
+
+/// What a line counts, in pages of 4 KiB: those that are, or come to be, on each node, and those
+/// without room.
 #[derive(Clone, Copy)]
 pub(crate) struct Counts {
     pub(crate) nodes: [u64; 256],
@@ -54,12 +58,23 @@ impl Counts {
         self.nodes[place] = self.nodes[place].saturating_add(pages);
     }
 
+    /// Takes the pages for such of 2 MiB.
+    fn enlarge(&mut self) {
+        for node in 0..256usize {
+            self.nodes[node] = self.nodes[node].saturating_mul(PARTS);
+        }
+        self.lacking = self.lacking.saturating_mul(PARTS);
+        self.pages = self.pages.saturating_mul(PARTS);
+    }
+
     /// Reads a word.
     fn read(&mut self, word: &[u8]) {
         if word.starts_with(b"anon=") || word.starts_with(b"placed=") {
             self.is_counted = true;
         } else if word.starts_with(b"noroom=") {
             self.is_lacking = true;
+        } else if word == b"kernelpagesize_kB=2048".as_slice() {
+            self.enlarge();
         } else if let Some(lacking) = word.strip_prefix(b"exhausted=") {
             self.is_lacking = true;
             self.add(0, number_in(lacking).unwrap_or(0));

@@ -139,6 +139,7 @@ fn predicted(
         format: Format::Text,
         free: &[],
         there: &[],
+        beside: &[],
     };
     match subject_of(script, process) {
         Ok(subject) => prediction_of(alloc, subject, asked, &mut ()),

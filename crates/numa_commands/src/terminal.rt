@@ -4,7 +4,7 @@ use numa_console::{Answering, StandardError, fail};
 use numa_diagnose::{LineAt, say_line};
 use numa_host_script::HostScript;
 use numa_lines::{Lines, Respond, RunFault, TakeLine, read_all};
-use numa_play::{Scripts, judge, remark_on};
+use numa_play::{HugeCount, Scripts, judge, remark_on};
 use numa_script::line::parse;
 use std::alloc::Global;
 use std::io;
@@ -142,7 +142,7 @@ impl<W: Write, T: Write> Typed<W, T> {
     /// What a prediction doesn't say of pages of 2 MiB, which an explanation tells.
     fn remark(&self, asked: AskedProcess) -> &'static str {
         match asked.question {
-            ShellQuestion::Predict(_) => remark_on(&self.judged, true).unwrap_or(""),
+            ShellQuestion::Predict(_) => remark_on(&self.judged, HugeCount::Rows).unwrap_or(""),
             _ => "",
         }
     }

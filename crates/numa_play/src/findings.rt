@@ -3,7 +3,7 @@ ghost use Rattle.std.specs.Prelude.{◌≡◌};
 ghost use Rattle.numa_subjects.specs.Faults.{ended_by, has_faults};
 
 use crate::found_objects::{Message, Said, put_message, put_unjudged, say_message, words_of};
-use crate::huge::remark_on;
+use crate::huge::{HugeCount, remark_on};
 use crate::judging::{judge, judge_by_other};
 use crate::named::{Named, TasksNamed};
 use numa_diagnose::{Detail, Finding, HostHint, LineAt, hint_in, hint_of, say_unjudged};
@@ -305,10 +305,9 @@ impl<W: Write> Findings<W> {
         self.remark(BY_OTHER);
     }
 
-    /// Writes what an answer doesn't say of pages of 2 MiB, if there are some, which it counts as
-    /// pages of 4 KiB or leaves out.
-    pub fn tell_huge(&mut self, counts: bool) {
-        if let Some(words) = remark_on(&self.script, counts) {
+    /// Writes what an answer doesn't say of pages of 2 MiB, if there are some, which it counts so.
+    pub fn tell_huge(&mut self, counted: HugeCount) {
+        if let Some(words) = remark_on(&self.script, counted) {
             self.remark(words);
         }
     }

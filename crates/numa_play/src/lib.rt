@@ -23,7 +23,7 @@ mod question;
 mod touching;
 
 pub use findings::{Findings, Look, PLAIN};
-pub use huge::remark_on;
+pub use huge::{HugeCount, remark_on};
 pub use judging::judge;
 pub use named::TasksNamed;
 pub use places::page_places;

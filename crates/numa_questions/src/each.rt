@@ -26,6 +26,19 @@ pub struct EachAsked<'a> {
     pub free: &'a [FreePages],
     /// Where pages lie that are there, by process; nothing if none is there.
     pub there: &'a [Placed],
+    /// The same, and where the parts of pages of 2 MiB lie once pools gave them, which take no free
+    /// page; nothing if there are none.
+    pub beside: &'a [Placed],
+}
+
+impl EachAsked<'_> {
+    /// Where pages lie that take no free page, in this space or process.
+    pub(crate) fn lying(&self, place: usize) -> Option<&Placed> {
+        match self.beside.get(place) {
+            Some(placed) => Some(placed),
+            None => self.there.get(place),
+        }
+    }
 }
 
 /// Where the pages of a space would go, by what the ones before it have left in the account. With
@@ -91,7 +104,7 @@ fn predict_all<P: Watch>(
 ) -> Result<(), Halt> {
     let mut place = 0usize;
     for process in processes {
-        let placed = asked.there.get(place);
+        let placed = asked.lying(place);
         predict_one(alloc, process, placed, asked, account, answers, watch)?;
         place = place.saturating_add(1);
     }

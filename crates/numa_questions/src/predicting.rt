@@ -15,10 +15,10 @@ fn prediction_in<P: Watch>(
     asked: EachAsked<'_>,
     watch: &mut P,
 ) -> Result<Vec<u8>, Halt> {
-    let placed = asked.there.first();
+    let placed = asked.lying(0);
     let mut account = Account::new(asked.free);
     let text = predict_from(alloc, space, placed, asked, true, &mut account, watch)?;
-    match placed {
+    match asked.there.first() {
         Some(_) => Ok(text),
         None => shown_as(alloc, asked.format, "prediction", text),
     }
@@ -64,6 +64,7 @@ pub fn prediction_of<P: Watch>(
             let stay = !asked.there.is_empty();
             let about = About::of(subject, Some(asked.touch), Added::fine(&[]));
             let about = about.staying(stay).counting(subject);
+            let about = about.pooling(!asked.beside.is_empty());
             told_of(alloc, asked.format, &about, text)
         }
         Err(halt) => Err(halt),
@@ -105,6 +106,7 @@ pub fn predict_space(
         format,
         free,
         there: &[],
+        beside: &[],
     };
     prediction_of(alloc, Subject::One(space, None), asked, &mut ())
 }

@@ -1,10 +1,10 @@
 //! Questions about the state that scripts lead to.
 use crate::differing::difference;
 use crate::explaining::{ExplainAsked, explanation_after};
-use crate::pooling::from_pools;
+use crate::touching::from_pools;
 use numa_host_script::HostScript;
 use numa_placed::Placed;
-use numa_play::{Findings, Look, PLAIN, Scripts, answer, plain_by, play, subject_of};
+use numa_play::{Findings, HugeCount, Look, PLAIN, Scripts, answer, plain_by, play, subject_of};
 use numa_questions::{EachAsked, prediction_beside};
 use numa_sheets::{Format, FreePages, Touch, Watch};
 use numa_subjects::{Ended, Halt, Twin};
@@ -33,8 +33,8 @@ pub enum Question<'a> {
 }
 
 /// Where all mapped pages would go after a script, as a text, if there is something of which it is
-/// asked. If it matters what nodes have, or what is there, it is said too where pages of 2 MiB come
-/// from, if there are some.
+/// asked. If it matters what nodes have, or what is there, pages of 2 MiB lie where their pools give
+/// them, which is said too, if there are some.
 pub(crate) fn prediction<P: Watch>(
     alloc: Global,
     script: &HostScript,
@@ -43,12 +43,21 @@ pub(crate) fn prediction<P: Watch>(
     watch: &mut P,
 ) -> Result<Vec<u8>, Halt> {
     let subject = subject_of(script, process)?;
-    let pools = if asked.free.is_empty() && asked.there.is_empty() {
+    let touched = if asked.free.is_empty() && asked.there.is_empty() {
         None
     } else {
-        from_pools(script, process, asked.touch)?
+        from_pools(alloc, script, process, asked.touch, asked.there)?
     };
-    prediction_beside(alloc, subject, asked, pools.as_ref(), watch)
+    let Some(touched) = touched else {
+        return prediction_beside(alloc, subject, asked, None, watch);
+    };
+    let asked = EachAsked {
+        beside: touched.lying.as_slice(),
+        ..asked
+    };
+    let text = prediction_beside(alloc, subject, asked, Some(&touched.said), watch);
+    drop(touched);
+    text
 }
 
 /// Where all mapped pages would go after the lines so far, if they were touched now, but that those
@@ -73,6 +82,7 @@ pub fn prediction_there<P: Watch>(
         format,
         free,
         there,
+        beside: &[],
     };
     prediction(alloc, script, process, asked, watch)
 }
@@ -94,21 +104,25 @@ pub(crate) fn remarked<T: Write>(
     }
 }
 
-/// Whether an answer counts pages: one that explains where they go doesn't.
-fn counts(question: &Question<'_>) -> bool {
-    !matches!(question, Question::Explain(_))
+/// How an answer counts pages of 2 MiB, if it counts pages: one that explains where they go doesn't.
+fn counts_huge(question: &Question<'_>) -> Option<HugeCount> {
+    match question {
+        Question::Predict(asked) => Some(HugeCount::predicted(asked.free, false)),
+        Question::Diff(_) => Some(HugeCount::Parts),
+        Question::Explain(_) => None,
+    }
 }
 
 /// An answer, with a remark on how it counts pages of 2 MiB, if it counts pages, and there are
 /// such.
 fn counted<T: Write>(
     findings: &mut Findings<T>,
-    counts: bool,
+    counts_huge: Option<HugeCount>,
     text: Result<Vec<u8>, Halt>,
 ) -> Result<Vec<u8>, Halt> {
     let text = text?;
-    if counts {
-        findings.tell_huge(true);
+    if let Some(counts) = counts_huge {
+        findings.tell_huge(counts);
     }
     remarked(findings, text)
 }
@@ -138,7 +152,7 @@ pub fn answer_after<R: Read + Drop, W: Write, T: Write + Drop, P: Watch>(
 ) -> Result<Ended, Halt> {
     let process = scripts.process;
     let mut findings = play(alloc, scripts, look_for(&question), told)?;
-    let counts = counts(&question);
+    let counts = counts_huge(&question);
     let text = match question {
         Question::Predict(asked) => match findings.end() {
             Ok(()) => prediction(alloc, findings.script(), process, asked, watch),

@@ -17,6 +17,7 @@ mod placing;
 mod pooling;
 mod replaying;
 mod there;
+mod touching;
 
 pub use asking::{Question, answer_after, prediction_there};
 pub use differing::play_added;

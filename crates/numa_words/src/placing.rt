@@ -4,7 +4,7 @@ use crate::asking::prediction;
 use crate::explaining::{ExplainAsked, explanation_in};
 use crate::moving::{MovesAsked, moves_told};
 use crate::there::{Played, Reading, play_there};
-use numa_play::{Findings, Scripts};
+use numa_play::{Findings, HugeCount, Scripts};
 use numa_questions::EachAsked;
 use numa_sheets::{Format, Watch};
 use numa_subjects::{Ended, Halt, Twin};
@@ -44,20 +44,23 @@ fn reading_for(question: &QuestionThere<'_>) -> Reading {
     }
 }
 
-/// Whether an answer counts pages of 2 MiB, as if they were touched: that about pages that are
-/// there leaves them out. One that explains where pages go counts none.
-fn counts_huge(question: &QuestionThere<'_>) -> Option<bool> {
+/// How an answer counts pages of 2 MiB: that about pages that are there leaves them out, unless they
+/// are touched. One that explains where pages go counts none.
+fn counts_huge(question: &QuestionThere<'_>) -> Option<HugeCount> {
     match question {
-        QuestionThere::Predict(_) => Some(true),
+        QuestionThere::Predict(_) => Some(HugeCount::Pooled),
         QuestionThere::Explain(_) => None,
-        QuestionThere::Moves(asked) => Some(asked.touch.is_some()),
+        QuestionThere::Moves(asked) => Some(match asked.touch {
+            Some(_) => HugeCount::Parts,
+            None => HugeCount::LeftOut,
+        }),
     }
 }
 
 /// Remarks how an answer counts pages of 2 MiB, if there are some, and there is an answer.
 fn remark<T: Write>(
     findings: &mut Findings<T>,
-    counts_huge: Option<bool>,
+    counts_huge: Option<HugeCount>,
     text: &Result<Vec<u8>, Halt>,
 ) {
     if let (Some(counts), Ok(_)) = (counts_huge, text) {

@@ -1,34 +1,21 @@
-//! Pages of 2 MiB after scripts, and the pools that they come from: what these have for one page,
-//! and where all would lie once each was touched.
+//! Pages of 2 MiB after scripts, and the pools that they come from: what these have for one page.
 ghost use Rattle.std.specs.Prelude.{◌≡◌, IfSome};
 ghost use Rattle.numa_placed.specs.Binds.{nodes_in};
 ghost use Rattle.numa_pools.specs.Pools.{giver};
 
 use arrayvec::ArrayVec;
-use numa_answers::{FromPools, Pooled};
-use numa_host_huge::HostHuge;
-use numa_host_pages::HostPages;
+use numa_answers::Pooled;
 use numa_host_script::HostScript;
-use numa_huge::{HugePages, HugePlaces, HugeSpot};
-use numa_lines::RunFault;
-use numa_machine::NoMemory;
-use numa_page_state::binding::page_count;
-use numa_page_state::huge_span;
+use numa_huge::{HugePages, HugeSpot};
 use numa_pools::Pools;
 use numa_questions::place_of;
-use numa_requests::PAGE_BYTES;
 use numa_sheets::Touch;
 use numa_space::Space;
-use numa_subjects::{Halt, PagePlace};
+use numa_subjects::PagePlace;
 use std::alloc::{AllocError, Global};
 
 /// The pages of 4 KiB of one of 2 MiB.
 const PARTS: u64 = 512;
-
-/// The pages of 2 MiB below address 2^47, and their bytes.
-const MOST_PAGES: u64 = 1 << 26;
-
-const MOST_BYTES: u64 = 1 << 47;
 
 /// What is known of a page in each process: where it lies, or what the pools have for it.
 #[derive(Drop)]
@@ -185,131 +172,4 @@ pub(crate) fn known_pages<'a>(
     known.add_own(script, touch, page, there)?;
     known.add_each(script, process, touch, page, there)?;
     Ok(known)
-}
-
-/// No page.
-fn no_pages() -> FromPools {
-    FromPools {
-        on: [0; 256],
-        exhausted: 0,
-    }
-}
-
-/// Adds the pages that lie on each node.
-fn add_counts(said: &mut FromPools, places: &HugePlaces) {
-    let counts = places.counts_in(0, MOST_PAGES);
-    for node in 0..256usize {
-        said.on[node] = said.on[node].saturating_add(counts.on[node]);
-    }
-}
-
-/// Where all pages of one process lie, once each was touched.
-fn from_own(kept: &HugePages, space: &Space, touch: Touch) -> Result<FromPools, NoMemory> {
-    let Touch { task, cpu } = touch;
-    let span = huge_span(0, MOST_BYTES / PAGE_BYTES);
-    let touched = kept
-        .places
-        .populated(space, span.first, span.pages, task, cpu)?;
-    let (places, arrived) = touched;
-    let mut said = FromPools {
-        on: [0; 256],
-        exhausted: arrived.exhausted,
-    };
-    add_counts(&mut said, &places);
-    drop(places);
-    Ok(said)
-}
-
-/// Where all pages of the one space of a script lie, once each was touched.
-fn from_script(script: &HostScript, touch: Touch) -> Result<FromPools, NoMemory> {
-    if let Some(own) = script.script() {
-        if let (Some(kept), Some(core)) = (own.huge(), own.core()) {
-            return from_own(kept, core.space(), touch);
-        }
-    }
-    Ok(no_pages())
-}
-
-/// Touches all pages of 2 MiB of a process of a host, from an address on so many bytes, and returns
-/// how many no node gave.
-fn touched_of(
-    huge: &mut HostHuge,
-    process: u32,
-    space: &Space,
-    touch: Touch,
-    start: u64,
-    length: u64,
-) -> Result<u64, NoMemory> {
-    let pages = page_count(length);
-    if !huge.has_huge_in(process, start / PAGE_BYTES, pages) {
-        return Ok(0);
-    }
-    let Touch { task, cpu } = touch;
-    let touched = match huge.populated(process, space, start, length, task, cpu) {
-        Ok(touched) => touched,
-        Err(why) => return Err(why),
-    };
-    let (places, arrived) = touched;
-    let exhausted = arrived.exhausted;
-    huge.settle_touched(process, places, arrived);
-    Ok(exhausted)
-}
-
-/// Where the pages of a process lie once each was touched.
-fn add_touched(
-    huge: &mut HostHuge,
-    process: u32,
-    space: &Space,
-    touch: Touch,
-    said: &mut FromPools,
-) -> Result<(), NoMemory> {
-    let exhausted = touched_of(huge, process, space, touch, 0, MOST_BYTES)?;
-    said.exhausted = said.exhausted.saturating_add(exhausted);
-    if let Some(kept) = huge.pages_of(process) {
-        add_counts(said, &kept.places);
-    }
-    Ok(())
-}
-
-/// Where all pages of the processes of a host lie, or of one, once each was touched, those of one
-/// process after the other.
-fn from_shared(
-    script: &HostScript,
-    pages: &HostPages,
-    process: Option<u32>,
-    touch: Touch,
-) -> Result<FromPools, NoMemory> {
-    let mut said = no_pages();
-    let Some(host) = script.host() else {
-        return Ok(said);
-    };
-    let mut huge = pages.huge.copy()?;
-    for one in host.processes() {
-        if process.is_none() || process == Some(one.id) {
-            add_touched(&mut huge, one.id, &one.space, touch, &mut said)?;
-        }
-    }
-    drop(huge);
-    Ok(said)
-}
-
-/// Where all pages of 2 MiB would lie after a script, if each were touched from the pools as they
-/// are, as `populate` does; `None` if the script has no such pages.
-///
-/// # Errors
-/// `Stopped`: out of memory.
-pub(crate) fn from_pools(
-    script: &HostScript,
-    process: Option<u32>,
-    touch: Touch,
-) -> Result<Option<FromPools>, Halt> {
-    let said = match script.host_pages() {
-        Some(pages) => from_shared(script, pages, process, touch),
-        None => from_script(script, touch),
-    };
-    match said {
-        Ok(said) if said.pages() > 0 => Ok(Some(said)),
-        Ok(_) => Ok(None),
-        Err(_) => Err(Halt::Stopped(RunFault::Memory)),
-    }
 }

@@ -5,7 +5,7 @@ use numa_host_script::HostScript;
 use numa_lines::RunFault;
 use numa_machine::Machine;
 use numa_placed::Rooms;
-use numa_play::{Findings, Scripts, answer, other_subject, plain_by, play, subject_of};
+use numa_play::{Findings, HugeCount, Scripts, answer, other_subject, plain_by, play, subject_of};
 use numa_sheets::{Format, FreePages};
 use numa_subjects::{Ended, Halt, Subject, Twin};
 use numa_traces::{Before, ReplayForm, has_frames, room_before};
@@ -229,7 +229,7 @@ fn told_of<T: Write>(
     replayed: Result<Replayed, Halt>,
 ) -> Result<Vec<u8>, Halt> {
     let Replayed { text, is_other } = replayed?;
-    findings.tell_huge(true);
+    findings.tell_huge(HugeCount::Parts);
     if is_other {
         findings.tell_other();
     }

@@ -43,6 +43,7 @@ pub(crate) fn predict_asked(touch: Touch, format: Format, free: &[FreePages]) ->
         format,
         free,
         there: &[],
+        beside: &[],
     }
 }
 

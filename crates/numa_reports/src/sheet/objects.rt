@@ -67,6 +67,9 @@ fn range_object(alloc: Global, row: RangeRow<'_>) -> Result<Value, AllocError> {
     object.put("policy", row.policy.to_value(alloc));
     object.put_number("start", row.start);
     object.put_number("end", row.end);
+    if row.is_huge {
+        object.put_number("kernelpagesize_kB", 2_048);
+    }
     object.made()
 }
 

@@ -7,11 +7,12 @@ use crate::prediction::{RangePrediction, TakeRange};
 use crate::request::PredictionRequest;
 use crate::sheet::cells::{CELLS, first_cells};
 use crate::sheet::drawing::Drawing;
-use crate::sheet::fields::{RangeRow, bytes, placed_of};
+use crate::sheet::fields::{RangeRow, are_whole, bytes, count_whole, placed_of};
 use crate::sheet::largest::sizes_of;
 use crate::sheet::nodes::{NodePages, list_nodes};
 use crate::sheet::policies::PolicyTexts;
 use crate::sheet::{lines, objects, pictures, records};
+use numa_machine::is_part;
 use numa_ranges::Run;
 use numa_sheets::{Format, FreePages, Watch, Written};
 use numa_space::{RangeRecord, Space};
@@ -103,6 +104,16 @@ impl PredictionWriter {
         self.sum
     }
 
+    /// Whether the listed pages of a range are counted as such of 2 MiB, as they are from now on,
+    /// and how many it has. Records, a picture and a page for a browser have one size for all.
+    fn counted(&mut self, range: &Run<RangeRecord>) -> (bool, u64) {
+        let by_size = matches!(self.format, Format::Text | Format::Tap | Format::Json);
+        if by_size && is_part(range.index) && are_whole(&self.listed) {
+            return (true, count_whole(&mut self.listed, range.pages));
+        }
+        (false, range.pages)
+    }
+
     /// Where memory for what is written comes from.
     pub(crate) fn alloc(&self) -> Global {
         self.text.alloc()
@@ -136,11 +147,13 @@ impl PredictionWriter {
 impl TakeRange for PredictionWriter {
     fn take(&mut self, range: &Run<RangeRecord>, said: &RangePrediction) -> Result<(), AllocError> {
         list_nodes(&mut self.listed, shown(&said.counts, self.nodes))?;
+        let (is_huge, pages) = self.counted(range);
         let row = RangeRow {
             start: bytes(range.first),
             end: bytes(range.first.saturating_add(range.pages)),
             policy: self.policies.text(said.policy)?,
-            placed: placed_of(&self.listed, range.pages, self.fills),
+            is_huge,
+            placed: placed_of(&self.listed, pages, self.fills),
         };
         let text = &mut self.text;
         match self.format {

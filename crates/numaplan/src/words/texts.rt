@@ -8,7 +8,7 @@ use numa_beside::{Areas, barred, named};
 use numa_console::{Asking, Question};
 use numa_lines::RunFault;
 use numa_moves::Origin;
-use numa_play::{Findings, page_meant, page_places, touches};
+use numa_play::{Findings, HugeCount, page_meant, page_places, touches};
 use numa_questions::AskedPages;
 use numa_sheets::{AddressAsked, Format, FreePages, Touch, Watch};
 use numa_subjects::{Added, Halt, PagePlace};
@@ -212,13 +212,15 @@ fn answer_of<T: Write, P: Watch>(
     }
 }
 
-/// Whether an answer counts pages of 2 MiB, as if they were touched: that about pages that are
-/// there leaves them out. One that explains where pages go counts none.
-fn counts_huge(meant: Meant<'_>) -> Option<bool> {
-    match meant.asking.question {
+/// How an answer counts pages of 2 MiB: that about pages that are there leaves them out, unless they
+/// are touched. One that explains where pages go counts none.
+fn counts_huge(meant: Meant<'_>) -> Option<HugeCount> {
+    let asking = meant.asking;
+    match asking.question {
+        Question::Predict(free) => Some(HugeCount::predicted(free, !asking.at.is_empty())),
         Question::Explain(..) => None,
-        Question::Moves(..) => Some(!meant.touches.is_empty()),
-        _ => Some(true),
+        Question::Moves(..) if meant.touches.is_empty() => Some(HugeCount::LeftOut),
+        _ => Some(HugeCount::Parts),
     }
 }
 
@@ -226,7 +228,7 @@ fn counts_huge(meant: Meant<'_>) -> Option<bool> {
 /// that by the other rules it would be another.
 fn remarked<T: Write>(
     findings: &mut Findings<T>,
-    counts_huge: Option<bool>,
+    counts_huge: Option<HugeCount>,
     answer: Answer,
 ) -> Result<Vec<u8>, Halt> {
     let Answer { text, is_other } = answer;

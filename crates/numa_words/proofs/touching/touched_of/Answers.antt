@@ -3,7 +3,7 @@ use Rattle.numa_huge.specs.Huge.{has_huge}
 use Rattle.numa_host_huge.specs.Kept.{spots_in}
 use Rattle.numa_page_state.specs.Huge.{huge_count, huge_first}
 use Rattle.numa_space.specs.History.{page_of}
-use Rattle.numa_words.proofs.pooling.touched_of.Goals as goal
+use Rattle.numa_words.proofs.touching.touched_of.Goals as goal
 
 pub populated-requires : goal.populated-requires
 populated-requires c =
