@@ -1,16 +1,19 @@
 -- Objects of which a span of places gets another policy.
 use Rattle.std.proofs.Common.{◌≡◌, ℕ, zero, suc, ◌+◌, ◌-◌, ◌*◌, ◌/◌, ◌%◌, ◌^◌, ◌<◌, ◌≤◌, true, false}
 use Rattle.std.proofs.Common.{Option, Some, None, List, [], ◌∷◌, length, map, eqb, refl, sym, ap}
-use Rattle.std.proofs.Common.{◌∙◌, arith, inl, inr}
+use Rattle.std.proofs.Common.{◌∙◌, get_or, subst, arith, inl, inr}
 use Rattle.std.specs.Prelude.{slice_get, slice_set, if◌then◌else◌, option_and_then, All}
 use Rattle.std.proofs.lemmas.Bool.{cases_Bool, cases_lt, eq-eqb, eqb-true, le-leb}
 use Rattle.std.proofs.lemmas.Bool.{le-ltb, lt-leb, lt-ltb}
 use Rattle.numa_mode.specs.Policy.{PolicyRecord}
 use Rattle.numa_ranges.specs.Runs.{in_pages}
 use Rattle.numa_ranges.proofs.Apart.{in_pages-true, in_pages-below, in_pages-above}
-use Rattle.numa_objects.specs.Changes.{AreBound, AreOfObject, bound_policy, identity}
-use Rattle.numa_objects.specs.Objects.{ObjectData, policy_in_turn, policy_of, shared_policy}
+use Rattle.numa_objects.specs.Changes.{AreBound, bind_cause, bound_policy, identity, ranges_after}
+use Rattle.numa_objects.specs.Changes.{when}
+use Rattle.numa_objects.specs.Objects.{ObjectData, policy_in_turn, policy_of, ranges_beside}
+use Rattle.numa_objects.specs.Objects.{ranges_by, shared_policy}
 use Rattle.numa_objects.specs.Spots.{is_shared, slot_of, turn_of}
+use Rattle.numa_objects.specs.declared.fault.ObjectFault.TheVariants.{TooManyRanges}
 
 -- ---- indexes
 
@@ -195,3 +198,78 @@ module _ (old : List ObjectData) (index pages slot : ℕ) (policy : Option Polic
         | inr high ↦ slots other high
       ];
     }
+
+-- ---- a call
+
+-- an element that is read is the one that stands there
+index-there : (items : List ObjectData) (slot : ℕ) (read object : ObjectData)
+    → read ≡ get_or items slot read → slice_get items slot ≡ Some object → read ≡ object
+index-there [] slot read object is there = absurd cc
+index-there (x ∷ items) zero read object is there =
+    let same : x ≡ object = cc in is ∙ same
+index-there (x ∷ items) (suc slot) read object is there =
+    index-there items slot read object is there
+
+module _ (old items : List ObjectData) (index pages slot turn inode : ℕ)
+    (policy : Option PolicyRecord) (object read asked : ObjectData) (whole : items ≡ old)
+    (is_slot : slot ≡ slot_of index) (there : slice_get old (slot_of index) ≡ Some object)
+    (item : read ≡ get_or items slot read) (is_asked : asked ≡ read)
+    (is_turn : turn ≡ turn_of index) (is_inode : inode ≡ asked.inode) where
+  in-items : slice_get items slot ≡ Some object
+  in-items = (λ i. slice_get (whole i) (is_slot i)) ∙ there
+
+  pub found : asked ≡ object
+  found = is_asked ∙ index-there items slot read object item in-items
+
+  pub slot-low : slot < length items
+  slot-low = there-low items slot object in-items
+
+  pub place-is : turn - inode ≡ turn_of index - object.inode
+  place-is = λ i. is_turn i - (is_inode ∙ ap (λ (o : ObjectData). o.inode) found) i
+
+  module _ (beside after : ℕ) (is_beside : beside ≡ ranges_beside slot items)
+      (is_after : after ≡ ranges_by (bound_policy (turn - inode) pages policy (policy_of asked)))
+    where
+      total : ranges_after old (slot_of index) object (turn_of index - object.inode) pages policy
+          ≡ beside + after
+      total =
+          let a : ranges_beside (slot_of index) old ≡ beside =
+          sym (is_beside ∙ (λ i. ranges_beside (is_slot i) (whole i))) in
+          let b : ranges_by (bound_policy (turn_of index - object.inode) pages policy
+          (policy_of object)) ≡ after =
+          sym (is_after ∙ (λ i. ranges_by (bound_policy (place-is i) pages policy
+          (policy_of (found i))))) in
+          λ i. a i + b i
+
+      pub cause-none : beside + after ≤ 65536 → bind_cause old index pages policy ≡ None
+      cause-none few =
+          rw there (ap (λ b. when b TooManyRanges) (le-ltb 65536 (ranges_after old (slot_of index)
+          object (turn_of index - object.inode) pages policy) (omega (arith, total, few))))
+
+      pub cause-some : 65536 < beside + after
+          → bind_cause old index pages policy ≡ Some TooManyRanges
+      cause-some many =
+          rw there (ap (λ b. when b TooManyRanges) (lt-ltb 65536 (ranges_after old (slot_of index)
+          object (turn_of index - object.inode) pages policy) (omega (arith, total, many))))
+
+  module _ (changed : ObjectData) (same : identity changed ≡ identity asked)
+      (policies : (place : ℕ) → policy_of changed place
+      ≡ bound_policy (turn - inode) pages policy (policy_of asked) place) where
+    pub changed-ranges : ranges_by (policy_of changed)
+        ≡ ranges_by (bound_policy (turn - inode) pages policy (policy_of asked))
+    changed-ranges =
+        let all : policy_of changed ≡ bound_policy (turn - inode) pages policy (policy_of asked) =
+        λ i place. policies place i in
+        ap ranges_by all
+
+    pub call-bound : 0 < pages → 2 ^ 37 ≤ index → object.inode ≤ turn_of index
+        → turn_of index - object.inode + pages ≤ 2 ^ 35 → inode < 2 ^ 35
+        → AreBound old index pages policy (slice_set items slot changed)
+    call-bound some shared from to low =
+        let number : inode ≡ object.inode = is_inode ∙ ap (λ (o : ObjectData). o.inode) found in
+        subst (λ (l : List ObjectData). AreBound old index pages policy (slice_set l slot changed))
+        (sym whole)
+        (are-bound old index pages slot policy object changed some shared is_slot
+        (ap (slice_get old) is_slot ∙ there) from to (omega (arith, number, low))
+        (same ∙ ap identity found) (λ place. policies place
+        ∙ (λ i. bound_policy (place-is i) pages policy (policy_of (found i)) place)))

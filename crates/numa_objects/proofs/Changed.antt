@@ -1,13 +1,15 @@
 -- A map of places of which a span is unmapped, and gets a policy, if there is one.
-use Rattle.std.proofs.Common.{◌≡◌, ℕ, ◌+◌, ◌-◌, ◌≤◌, true, false, Option, Some, None, refl, sym, ap}
-use Rattle.std.proofs.Common.{subst, ◌∙◌, arith, inl, inr}
-use Rattle.std.specs.Prelude.{is_some, nat_le, nat_lt, option_map}
+use Rattle.std.proofs.Common.{◌≡◌, ℕ, ◌+◌, ◌-◌, ◌<◌, ◌≤◌, ◌^◌, true, false, Option, Some, None, List}
+use Rattle.std.proofs.Common.{[], ◌∷◌, length, refl, sym, ap, subst, ◌∙◌, arith, inl, inr}
+use Rattle.std.specs.Prelude.{is_some, nat_le, nat_lt, option_map, if◌then◌else◌}
 use Rattle.std.specs.Option.{ForSome}
 use Rattle.std.proofs.lemmas.Bool.{and_parts, cases_Bool, leb-true}
 use Rattle.numa_mode.specs.Policy.{PolicyRecord}
-use Rattle.numa_ranges.specs.Maps.{with_span, without_span}
-use Rattle.numa_ranges.specs.Runs.{in_pages}
+use Rattle.numa_ranges.specs.Maps.{Shows, with_span, without_span}
+use Rattle.numa_ranges.specs.Runs.{AreApart, AreMaximal, in_pages, page_at}
+use Rattle.numa_ranges.specs.declared.run.Run.{Run}
 use Rattle.numa_objects.specs.Changes.{bound_policy, with_policy}
+use Rattle.numa_objects.specs.Counting.{bound_run}
 
 -- where there is none, and where there is one
 for-none : (place : ℕ) (x : ℕ × PolicyRecord) → None ≡ Some x → x.0 ≡ place
@@ -117,3 +119,17 @@ first-place pages (Some r) place =
       | inl inside ↦ rw inside (for-one (0 + (place - 0), r) place (omega arith))
       | inr outside ↦ rw outside (for-none place)
     ]
+
+-- it has one range, if its places have a policy, since no other ranges say the same
+pub first-ranges : (pages : ℕ) (policy : Option PolicyRecord) (runs : List (Run PolicyRecord))
+    → 0 < pages → pages ≤ 2 ^ 35
+    → ((others : List (Run PolicyRecord)) → AreApart 0 others → AreMaximal others
+    → Shows others (page_at runs) → others ≡ runs)
+    → Shows runs (with_policy 0 pages policy (λ other. None))
+    → length runs ≡ (if is_some policy then 1 else 0)
+first-ranges pages None runs some within alone shows =
+    sym (ap length (alone [] (omega arith) tt (λ page. sym (shows page))))
+first-ranges pages (Some r) runs some within alone shows =
+    sym (ap length (alone (bound_run 0 pages (Some r))
+    (omega arith, some, omega (arith, within), omega (arith, within)) (tt, tt)
+    (λ page. sym (shows page))))

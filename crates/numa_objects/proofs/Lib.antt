@@ -5,4 +5,5 @@ pub mod Changed
 pub mod Pieces
 pub mod Bound
 pub mod Copied
+pub mod Kept
 pub mod Rows

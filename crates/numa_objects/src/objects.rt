@@ -239,6 +239,8 @@ impl Objects {
         let Ok(changed) = object.bound(place, pages, policy) else {
             return Err(ObjectFault::NoMemory);
         };
+        // Tells the proof how many ranges it has.
+        let _ = changed.ranges();
         let Ok(table) = table_replaced(self.alloc, items, slot, changed) else {
             return Err(ObjectFault::NoMemory);
         };
