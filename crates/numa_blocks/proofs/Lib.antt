@@ -1,0 +1,4 @@
+pub mod Gaps
+pub mod InCommon
+pub mod Pushed
+mod Rows

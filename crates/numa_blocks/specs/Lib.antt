@@ -1,0 +1,5 @@
+pub mod Areas
+pub mod Blocks
+pub mod Settings
+pub mod Touches
+pub mod Tries
