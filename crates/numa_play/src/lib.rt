@@ -28,5 +28,5 @@ pub use judging::judge;
 pub use named::TasksNamed;
 pub use places::page_places;
 pub use playing::{Scripts, check, plain_by, play};
-pub use question::{answer, other_subject, subject_after, subject_of};
+pub use question::{answer, other_subject, subject_of};
 pub use touching::{page_meant, touches};

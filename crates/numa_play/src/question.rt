@@ -39,17 +39,6 @@ pub fn subject_of(script: &HostScript, process: Option<u32>) -> Result<Subject<'
     }
 }
 
-/// Finishes the messages, and returns what an answer is about.
-pub fn subject_after<T: Write>(
-    findings: &mut Findings<T>,
-    process: Option<u32>,
-) -> Result<Subject<'_>, Halt> {
-    match findings.end() {
-        Ok(()) => subject_of(findings.script(), process),
-        Err(why) => Err(Halt::Stopped(why)),
-    }
-}
-
 /// Writes an answer, if there is one, based on lines that ended so.
 fn write<W: Write>(text: Result<Vec<u8>, Halt>, ended: Ended, output: &mut W) -> Result<Ended, Halt>
     ensures { IfOk result (λ by. by ≡ ended) }
