@@ -6,7 +6,7 @@ ghost use Rattle.numa_ranges.specs.Runs.{page_at};
 ghost use Rattle.numa_objects.specs.Changes.{bound_policy, identity, with_policy};
 ghost use Rattle.numa_objects.specs.Objects.{IsObject, policy_in_turn, policy_of, ranges_by};
 
-use crate::counting::{add_befores, add_behinds, add_span};
+use crate::counting::{Cut, add_parts, add_span};
 use crate::place_policy::PlacePolicy;
 use crate::tally::Tally;
 use numa_machine::NoMemory;
@@ -163,9 +163,9 @@ impl Object {
         let _ = self.policies.len();
         let _ = self.policies.iter();
         let mut tally = Tally::new();
-        add_befores(&mut tally, &self.policies, first);
+        add_parts(&mut tally, &self.policies, Cut::Before(first));
         add_span(&mut tally, first, pages, policy);
-        add_behinds(&mut tally, &self.policies, first + pages);
+        add_parts(&mut tally, &self.policies, Cut::From(first + pages));
         tally.total()
     }
 

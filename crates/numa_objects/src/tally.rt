@@ -2,7 +2,7 @@
 ghost use Rattle.std.specs.Option.{ForSome};
 ghost use Rattle.numa_ranges.specs.Edits.{IsInRange};
 
-use crate::counting::joins;
+use crate::counting::{Cut, joins, part_in};
 use crate::place_policy::PlacePolicy;
 use numa_ranges::Run;
 
@@ -18,9 +18,9 @@ pub(crate) struct Tally {
 impl Tally {
     ghost use Rattle.std.specs.Prelude.{◌≡◌, ◌+◌, ◌<◌, ◌≤◌, ◌^◌, List, [], ◌∷◌, ◌++◌, length};
     ghost use Rattle.numa_mode.specs.Policy.{PolicyRecord};
-    ghost use Rattle.numa_ranges.specs.Edits.{IsInRange, maximal_runs, part_before, part_from};
+    ghost use Rattle.numa_ranges.specs.Edits.{IsInRange, maximal_runs};
     ghost use Rattle.numa_ranges.specs.declared.run.Run.{Run};
-    ghost use Rattle.numa_objects.specs.Counting.{ranges_with};
+    ghost use Rattle.numa_objects.specs.Counting.{part_by, ranges_with};
     ghost use Rattle.numa_objects.specs.Same.{same_policy};
 
     /// No runs so far.
@@ -60,44 +60,18 @@ impl Tally {
         self.last = Some(run);
     }
 
-    /// What a run has before a place.
-    pub(crate) fn add_before(&mut self, run: &Run<PlacePolicy>, first: u64)
+    /// What a run has before a place, or from it on.
+    pub(crate) fn add_part(&mut self, run: &Run<PlacePolicy>, cut: Cut)
         requires in_range { IsInRange run.now }
         requires room { self.old.count < 2 ^ 63 }
         ensures ranges { (rest : List (Run PolicyRecord)) → ranges_with self.new rest
-            ≡ ranges_with self.old (part_before first run.now ++ rest) }
+            ≡ ranges_with self.old (part_by cut run.now ++ rest) }
         ensures count { self.new.count ≤ self.old.count + 1 }
     {
-        if run.first >= first {
+        let Some(part) = part_in(run, cut) else {
             return;
-        }
-        self.add(Run {
-            first: run.first,
-            pages: run.pages.min(first - run.first),
-            index: run.index,
-            value: run.value,
-        });
-    }
-
-    /// What a run has from a place on.
-    pub(crate) fn add_from(&mut self, run: &Run<PlacePolicy>, end: u64)
-        requires in_range { IsInRange run.now }
-        requires room { self.old.count < 2 ^ 63 }
-        ensures ranges { (rest : List (Run PolicyRecord)) → ranges_with self.new rest
-            ≡ ranges_with self.old (part_from end run.now ++ rest) }
-        ensures count { self.new.count ≤ self.old.count + 1 }
-    {
-        let last = run.first + run.pages;
-        if last <= end {
-            return;
-        }
-        let first = end.max(run.first);
-        self.add(Run {
-            first,
-            pages: last - first,
-            index: run.index + (first - run.first),
-            value: run.value,
-        });
+        };
+        self.add(part);
     }
 
     /// How many ranges there are.

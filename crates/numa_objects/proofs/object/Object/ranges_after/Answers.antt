@@ -1,4 +1,4 @@
-use Rattle.std.proofs.Common.{◌≡◌, ◌+◌, ◌∙◌, ap, sym, arith, List, [], ◌++◌, length, append-nil}
+use Rattle.std.proofs.Common.{◌+◌, ◌∙◌, ap, sym, arith, List, [], ◌++◌, length, append-nil}
 use Rattle.numa_mode.specs.Policy.{PolicyRecord}
 use Rattle.numa_ranges.specs.Edits.{maximal_runs}
 use Rattle.numa_ranges.specs.declared.run.Run.{Run}
@@ -9,8 +9,8 @@ use Rattle.numa_objects.specs.Same.{same_policy}
 use Rattle.numa_objects.proofs.Overwritten.{count-after}
 use Rattle.numa_objects.proofs.object.Object.ranges_after.Goals as goal
 
-pub add_befores-requires : goal.add_befores-requires
-add_befores-requires c = record {
+pub add_parts-requires : goal.add_parts-requires
+add_parts-requires c = record {
   room = omega (arith, c.len.ensures.runs, c.len.ensures.few, c.new-tally.ensures.count);
 }
 
@@ -21,17 +21,17 @@ add_span-requires-clause-room c =
       c.len.ensures.runs,
       c.len.ensures.few,
       c.new-tally.ensures.count,
-      c.add_befores.ensures.count,
+      c.add_parts.ensures.count,
     )
 
-pub add_behinds-requires : goal.add_behinds-requires
-add_behinds-requires c = record {
+pub add_parts-requires-2 : goal.add_parts-requires-2
+add_parts-requires-2 c = record {
   room = omega (
     arith,
     c.len.ensures.runs,
     c.len.ensures.few,
     c.new-tally.ensures.count,
-    c.add_befores.ensures.count,
+    c.add_parts.ensures.count,
     c.add_span.ensures.count,
   );
 }
@@ -43,9 +43,9 @@ total-requires c =
       c.len.ensures.runs,
       c.len.ensures.few,
       c.new-tally.ensures.count,
-      c.add_befores.ensures.count,
+      c.add_parts.ensures.count,
       c.add_span.ensures.count,
-      c.add_behinds.ensures.count,
+      c.add_parts-2.ensures.count,
     )
 
 pub returns-clause-ranges : goal.returns-clause-ranges
@@ -54,8 +54,8 @@ returns-clause-ranges c =
     let front = befores c.args.first runs in
     let span = bound_run c.args.first c.args.pages c.args.policy.now in
     let back = behinds (c.args.first + c.args.pages) runs in
-    c.total.ensures ∙ c.add_behinds.ensures.ranges [] ∙ c.add_span.ensures.ranges (back ++ [])
-    ∙ c.add_befores.ensures.ranges (span ++ (back ++ []))
+    c.total.ensures ∙ c.add_parts-2.ensures.ranges [] ∙ c.add_span.ensures.ranges (back ++ [])
+    ∙ c.add_parts.ensures.ranges (span ++ (back ++ []))
     ∙ c.new-tally.ensures.ranges (front ++ (span ++ (back ++ [])))
     ∙ ap (λ (l : List (Run PolicyRecord)). length (maximal_runs same_policy (front ++ (span ++ l))))
     (append-nil back)
