@@ -6,7 +6,7 @@ ghost use Rattle.numa_placed.specs.Spots.{node_of};
 ghost use Rattle.numa_host_script.specs.Hosts.{Hosting};
 ghost use Rattle.numa_host_script.specs.Paging.{pages_at};
 ghost use Rattle.numa_host_script.specs.Sessions.{Hosted};
-ghost use Rattle.numa_host_script.specs.Standing.{StandsIn};
+ghost use Rattle.numa_host_script.specs.Taking.{SessionStandsFor};
 ghost use Rattle.numa_play.specs.Places.{place_by, place_of, place_on};
 ghost use Rattle.numa_requests.specs.declared.placement.Placement.{Placement};
 ghost use Rattle.numa_run.specs.Scripts.{ScriptStandsFor};
@@ -43,8 +43,8 @@ fn place_in(script: &Script, page: u64) -> Option<PagePlace>
 
 /// Where a page of a process of a host lies, if it is there.
 fn place_of_process(script: &HostScript, process: u32, page: u64) -> Option<PagePlace>
-    ensures { (at : Hosting) → StandsIn script.now.script script.now.limits script.now.host
-        (Hosted at) → result ≡ place_on (node_of ((pages_at at process).spots page)) }
+    ensures { (at : Hosting) → SessionStandsFor script.now (Hosted at)
+        → result ≡ place_on (node_of ((pages_at at process).spots page)) }
 {
     let Some(kept) = script.pages_of(process) else {
         return None;
