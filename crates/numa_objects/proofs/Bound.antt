@@ -227,6 +227,27 @@ module _ (old items : List ObjectData) (index pages slot turn inode : ℕ)
   pub place-is : turn - inode ≡ turn_of index - object.inode
   place-is = λ i. is_turn i - (is_inode ∙ ap (λ (o : ObjectData). o.inode) found) i
 
+  -- a piece of the object has one policy
+  pub piece-same : (count : ℕ) (value : Option PolicyRecord) → 2 ^ 37 ≤ index
+      → object.inode ≤ turn_of index → turn_of index - object.inode + pages ≤ 2 ^ 35
+      → inode < 2 ^ 35 → count ≤ pages
+      → ((q : ℕ) → q < count → policy_of asked (turn - inode + q) ≡ value)
+      → (q : ℕ) → q < count → shared_policy old (index + q) ≡ value
+  piece-same count value shared from to low few same q less =
+      let number : inode ≡ object.inode = is_inode ∙ ap (λ (o : ObjectData). o.inode) found in
+      let within : turn_of index + q < 2 ^ 36 = omega (arith, from, to, number, low, few, less) in
+      let later : turn_of (index + q) ≡ turn_of index + q = turn-later index q shared within in
+      let at : slice_get old (slot_of (index + q)) ≡ Some object =
+      ap (slice_get old) (slot-later index q shared within) ∙ there in
+      let place : turn_of (index + q) - object.inode ≡ turn_of index - object.inode + q =
+      omega (arith, later, from) in
+      rw (
+        shared-from (index + q) (omega (arith, shared)),
+        at,
+        le-ltb (turn_of (index + q)) object.inode (omega (arith, later, from)),
+      ) (ap (policy_of object) place ∙ sym (λ i. policy_of (found i) (place-is i + q))
+      ∙ same q less)
+
   module _ (beside after : ℕ) (is_beside : beside ≡ ranges_beside slot items)
       (is_after : after ≡ ranges_by (bound_policy (turn - inode) pages policy (policy_of asked)))
     where
