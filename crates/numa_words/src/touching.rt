@@ -133,11 +133,9 @@ fn touched_own(
     };
     let (places, arrived) = touched;
     let counts = places.counts_in(0, MOST_PAGES);
-    let said = FromPools {
-        on: counts.on,
-        exhausted: arrived.exhausted,
-    };
-    Ok((places, said))
+    let on = counts.on;
+    let exhausted = arrived.exhausted;
+    Ok((places, FromPools { on, exhausted }))
 }
 
 /// Where all pages of one process lie, once each was touched.
