@@ -75,13 +75,8 @@ impl Area {
     /// The index of the block of a page, where nodes take turns: it counts blocks from the area's
     /// beginning, so that an area which begins elsewhere has other ones.
     ///
-    /// # Examples
-    /// From page 0x300005 on, whose index is the same, the block of page 0x300400 is the second:
-    ///
-    /// ```
-    /// let area = Area { first: 0x300005, pages: 0xc00, index: 0x300005, advice: Advice::Neither };
-    /// area.block_index(9, 0x300400) == 0x1801
-    /// ```
+    /// Of an area of 0xc00 pages from page 0x300005 on, whose index is the same, the block of order
+    /// 9 of page 0x300400 is the second, and has the index 0x1801.
     pub fn block_index(&self, order: u32, page: u64) -> u64
         requires order { order ≤ 9 }
         requires page { HasPage self.now page }
