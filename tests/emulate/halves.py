@@ -103,7 +103,7 @@ ROWS += [((name, *words), number) for name, *words in (
     ("prctl", GET_HUGE, 0, 0, 0, 0), ("write", nothing, area, 8), ("writev", nothing, vector, 1),
     ("dup2", mine, spare), ("dup3", mine, spare, 0), ("dup3", mine, mine, 0), ("open", nowhere, 0, 0),
     ("execveat", HERE, nowhere, words_of_true, no_words, 0), ("ftruncate", in_memory, 2 * PAGE),
-    ("fallocate", in_memory, 0, 0, PAGE), ("fstatfs", in_memory, room))]
+    ("fallocate", in_memory, 0, 0, PAGE), ("fstatfs", in_memory, room), ("unlinkat", HERE, nowhere, 0))]
 ROWS += [(words, opened) for words in (
     ("memfd_create", nowhere, 0), ("open", kernel_told, 0, 0), ("openat", HERE, kernel_told, 0, 0), ("dup", mine), ("fcntl", mine, DUPLICATE, 0))]
 ROWS += [(words, segment) for words in (("shmget", 0, PAGE, CREATE | 0o600), ("shmget", 7, PAGE, 0))]
