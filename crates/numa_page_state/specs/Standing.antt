@@ -19,7 +19,7 @@ use Rattle.numa_space.specs.Standing.{SpaceState, StandsFor}
 use Rattle.numa_requests.specs.declared.command.Command.{Command}
 use Rattle.numa_page_state.specs.Lying.{Arrival, Ground, LastMove, Lying, Motion, OfNodes}
 use Rattle.numa_page_state.specs.Lying.{OfPages, Process, Sent}
-use Rattle.numa_page_state.specs.Lying.{Told, motion, nothing, with_spots}
+use Rattle.numa_page_state.specs.Lying.{Told, motion, nothing, still, with_held, with_spots}
 use Rattle.numa_page_state.specs.Outcomes.{at_cause, at_spots, forgotten, has_stated}
 use Rattle.numa_page_state.specs.Outcomes.{Enough, Lack, is_starved, lack_in, lack_of, lack_told}
 use Rattle.numa_page_state.specs.Outcomes.{move_lack_told}
@@ -135,6 +135,15 @@ Migrates old rooms from to first result new rooms_then = (spots : ℕ → Spot)
     × Moves new rooms_then moved (motion room spots from to))
     (λ refusal. (first_of first (lack_in room (lack_told refusal)
     (motion room spots from to).spots) ≡ Some refusal) × (new ≡ old) × (rooms_then ≡ rooms))
+
+-- pages followed, unless they lacked runs or memory, and what that did is kept, with those that
+-- stayed in their frames
+abbrev pub Followed : Laid → Option Rooms → ℕ → ℕ → Laid → Option Rooms → (Kept → Type 0) → Last
+    → Type 0
+Followed old rooms from to new rooms_then Keeps last = (result : Result Moved PlacedRefusal)
+    × Migrates old rooms from to None result new rooms_then
+    × MatchResult result (λ moved. (told : Told) (kept : Kept) → TellsOf moved told → Keeps kept
+    → LastAs last (OfNodes (with_held kept told))) (λ refusal. LastAs last (OfNodes still))
 
 -- a span was stated to lie on a node, unless something stands against it, or it lacks runs or
 -- memory

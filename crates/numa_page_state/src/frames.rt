@@ -1,14 +1,17 @@
 //! Pages that keep frames, where other pages move: they stay.
 ghost use Rattle.std.specs.Prelude.{◌≡◌, ◌<◌, ◌≤◌, ◌^◌, ◌==◌, ℕ, [], MatchOption, MatchResult};
-ghost use Rattle.std.specs.Prelude.{None, Some, not};
+ghost use Rattle.std.specs.Prelude.{◌+◌, None, Some, not};
 ghost use Rattle.numa_maps.specs.Residents.{Kept};
 ghost use Rattle.numa_placed.specs.Spots.{pages_if};
-ghost use Rattle.numa_page_state.specs.Lying.{Told, ground_in, held_left, with_held};
+ghost use Rattle.numa_page_state.specs.Lying.{OfNodes, Told, ground_in, held_left, with_held};
 ghost use Rattle.numa_page_state.specs.Outcomes.{frame_cause, held_cause};
-ghost use Rattle.numa_page_state.specs.Standing.{AreGone, TellsOf};
+ghost use Rattle.numa_page_state.specs.Standing.{AreGone, Followed, LastAs, TellsOf};
 
+use crate::last::{Last, keep};
+use crate::state::still;
 use numa_maps::Resident;
-use numa_placed::{Moved, Spot, judge_move};
+use numa_mask::NodeMask;
+use numa_placed::{Moved, Placed, Rooms, Spot, judge_move};
 use numa_requests::MoveRefusal;
 use numa_space::Space;
 
@@ -35,6 +38,111 @@ fn held_left(resident: &Resident, to: &[u8; 256]) -> u64
         left += one;
     }
     left
+}
+
+/// How many pages keep a frame of a node whose pages go to another; none, where none keeps a frame.
+fn held_where(resident: Option<&Resident>, to: &[u8; 256]) -> u64
+    ensures left { (go : ℕ → ℕ) (kept : Kept) → AreGone to.now go → MatchOption resident.entry
+        (kept ≡ []) (λ held. held.now ≡ kept) → result ≡ held_left kept go }
+    ensures few { result < 2 ^ 63 }
+{
+    match resident {
+        None => 0,
+        Some(resident) => held_left(resident, to),
+    }
+}
+
+/// Writes what a move did in the place of another, with the pages that stayed in their frames.
+fn write_moved(told: &mut Moved, moved: &Moved, held: u64)
+    requires { moved.now.left + held < 2 ^ 64 }
+    ensures { (telling : Told) (kept : Kept) → TellsOf moved.now telling
+        → held ≡ held_left kept telling.to → TellsOf told.new (with_held kept telling) }
+{
+    told.moved = moved.moved;
+    told.left = moved.left + held;
+    told.from = moved.from;
+    told.to = moved.to;
+}
+
+/// Keeps what a move did, with the pages that stayed in their frames, in the place of the one
+/// before.
+fn keep_whole(last: &mut Last, moved: &Moved, held: u64)
+    requires { moved.now.left + held < 2 ^ 64 }
+    ensures { (told : Told) (kept : Kept) → TellsOf moved.now told → held ≡ held_left kept told.to
+        → LastAs last.new (OfNodes (with_held kept told)) }
+{
+    *last = Last::Nodes(Moved {
+        moved: moved.moved,
+        left: moved.left + held,
+        from: moved.from,
+        to: moved.to,
+    });
+}
+
+/// The same, written where the one before is, if that went by nodes too.
+fn keep_with_held(last: &mut Last, moved: &Moved, resident: Option<&Resident>)
+    requires { moved.now.left < 2 ^ 62 }
+    ensures { (told : Told) (kept : Kept) → TellsOf moved.now told → MatchOption resident.entry
+        (kept ≡ []) (λ held. held.now ≡ kept)
+        → LastAs last.new (OfNodes (with_held kept told)) }
+{
+    let held = held_where(resident, &moved.to);
+    match last {
+        Last::Nodes(told) => write_moved(told, moved, held),
+        Last::Pages(_) => keep_whole(last, moved, held),
+    }
+}
+
+/// Pages follow the allowed nodes where no node fills, and what that did is kept.
+fn follow_freely(
+    placed: &mut Placed,
+    last: &mut Last,
+    old: &NodeMask,
+    new: &NodeMask,
+    resident: Option<&Resident>,
+)
+    ensures { Followed placed.old None old.now new.now placed.new None (λ kept. MatchOption
+        resident.entry (kept ≡ []) (λ held. held.now ≡ kept)) last.new }
+{
+    let moved = placed.follow(old, new);
+    keep_with_held(last, &moved, resident);
+}
+
+/// The same as far as there is room; where they lack runs or memory, they stay.
+fn follow_filling(
+    placed: &mut Placed,
+    have: &mut Rooms,
+    last: &mut Last,
+    old: &NodeMask,
+    new: &NodeMask,
+    resident: Option<&Resident>,
+)
+    ensures { Followed placed.old (Some have.old) old.now new.now placed.new (Some have.new)
+        (λ kept. MatchOption resident.entry (kept ≡ []) (λ held. held.now ≡ kept)) last.new }
+{
+    match placed.follow_within(old, new, have) {
+        Ok(moved) => keep_with_held(last, &moved, resident),
+        Err(_refusal) => keep(last, Last::Nodes(still())),
+    }
+}
+
+/// Pages follow the allowed nodes, as far as there is room, and what that did is kept, with the
+/// pages that stayed in their frames; where they lack runs or memory, they stay.
+pub(crate) fn follow_telling(
+    placed: &mut Placed,
+    rooms: &mut Option<Rooms>,
+    last: &mut Last,
+    old: &NodeMask,
+    new: &NodeMask,
+    resident: Option<&Resident>,
+)
+    ensures { Followed placed.old rooms.old old.now new.now placed.new rooms.new (λ kept.
+        MatchOption resident.entry (kept ≡ []) (λ held. held.now ≡ kept)) last.new }
+{
+    match rooms {
+        None => follow_freely(placed, last, old, new, resident),
+        Some(have) => follow_filling(placed, have, last, old, new, resident),
+    }
 }
 
 /// What a move did, with the pages that stayed in their frames.

@@ -18,7 +18,7 @@ ghost use Rattle.numa_page_state.specs.Standing.{Lies, LiesAs};
 ghost use Rattle.numa_page_state.specs.Standing.{Migrates, MovesPage, States, TellsOf};
 
 use crate::arrived::{Arrived, untouched};
-use crate::frames::{judge_held, with_held};
+use crate::frames::{follow_telling, judge_held, with_held};
 use crate::last::{Last, keep};
 use crate::shift::Shift;
 use numa_machine::NoMemory;
@@ -405,14 +405,14 @@ impl PageState {
             keep(&mut self.last, Last::Nodes(still()));
             return;
         }
-        match follow(&mut self.placed, &mut self.rooms, old, new) {
-            Ok(moved) => {
-                keep(&mut self.last, Last::Nodes(with_held(moved, resident)));
-            }
-            Err(_refusal) => {
-                keep(&mut self.last, Last::Nodes(still()));
-            }
-        }
+        follow_telling(
+            &mut self.placed,
+            &mut self.rooms,
+            &mut self.last,
+            old,
+            new,
+            resident,
+        );
     }
 }
 
