@@ -1,4 +1,5 @@
 pub mod Alike
+pub mod AtOnce
 pub mod Begun
 pub mod Binding
 pub mod Counting
@@ -27,6 +28,7 @@ pub mod Repeating
 pub mod ShiftRows
 pub mod Slots
 pub mod Sources
+pub mod Spanned
 pub mod Stating
 pub mod Stepping
 pub mod Summed

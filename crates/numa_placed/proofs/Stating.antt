@@ -8,7 +8,8 @@ use Rattle.std.proofs.lemmas.Option.{get_or_from_slice_get, slice_get_within}
 use Rattle.numa_ranges.specs.Runs.{page_at, in_pages, end_of, AreApart}
 use Rattle.numa_ranges.specs.declared.run.Run.{Run}
 use Rattle.numa_ranges.proofs.Apart.{apart-top}
-use Rattle.numa_placed.specs.Spots.{changed_spots, stated_spot, stated_spots}
+use Rattle.numa_maps.specs.Residents.{Kept, placed_at}
+use Rattle.numa_placed.specs.Spots.{changed_spots, stated_beside, stated_spot, stated_spots}
 use Rattle.numa_placed.specs.declared.spot.Spot.{Spot}
 
 stated-twice : (node : ℕ) (spot : Spot) → stated_spot node (stated_spot node spot)
@@ -23,6 +24,18 @@ pub stated-all : (is_mapped : ℕ → Bool) (first pages node : ℕ) (spots : �
 stated-all is_mapped first pages node spots all page =
     elim (cases_Bool (in_pages first pages page)) [
       | inl t ↦ rw (t, all page t) refl
+      | inr e ↦ rw e refl
+    ]
+
+-- and none of them keeps a frame
+pub stated-bare : (is_mapped : ℕ → Bool) (kept : Kept) (first pages node : ℕ) (spots : ℕ → Spot)
+    → ((page : ℕ) → in_pages first pages page ≡ true → is_mapped page ≡ true)
+    → ((page : ℕ) → in_pages first pages page ≡ true → placed_at kept page ≡ None) → (page : ℕ)
+    → changed_spots first pages (stated_spot node) spots page
+    ≡ stated_beside is_mapped kept first pages node spots page
+stated-bare is_mapped kept first pages node spots all none page =
+    elim (cases_Bool (in_pages first pages page)) [
+      | inl t ↦ rw (t, all page t, none page t) refl
       | inr e ↦ rw e refl
     ]
 

@@ -49,6 +49,7 @@ pub mod judge;
 pub mod laws;
 pub mod leaving;
 pub mod moved;
+mod once;
 pub mod period;
 pub mod placed;
 mod places;

@@ -1,6 +1,7 @@
 //! Stating where the mapped pages of a span lie.
 ghost use Rattle.std.specs.Prelude.{◌≡◌, ◌+◌, ◌<◌, ◌≤◌, ◌^◌, ◌&&◌, ℕ, true, is_some, None, Some};
 ghost use Rattle.std.specs.Prelude.{IfOk, OnErr, OnOk, MatchResult, if◌then◌else◌};
+ghost use Rattle.numa_maps.specs.Residents.{placed_at};
 ghost use Rattle.numa_ranges.specs.Maps.{IsSpan};
 ghost use Rattle.numa_ranges.specs.Runs.{end_of, in_pages, page_at};
 ghost use Rattle.numa_space.specs.History.{page_of, page_count};
@@ -15,10 +16,11 @@ ghost use Rattle.numa_placed.specs.Turns.{AreKept, spots_of};
 
 use crate::change::{Change, SpanChange};
 use crate::edit::{copy_places, edit_places, let_go_places, put_places};
-use crate::fitting::put_places_within;
+use crate::fitting::{put_places_within, state_places_within};
 use crate::judge::lacks_node;
 use crate::places::{Places, change_places};
 use crate::rooms::Rooms;
+use crate::stretch::{keeps_none, range_of};
 use numa_machine::{NoMemory, Rules};
 use numa_maps::Resident;
 use numa_ranges::Run;
@@ -289,7 +291,25 @@ fn others_copy(
     Ok(next)
 }
 
-/// States where the mapped pages of a span lie, but of those that keep a frame, on a copy.
+/// Whether one range of the space has all pages of a span, and none of them keeps a frame.
+fn is_bare(space: &Space, said: StatedSpan, resident: &Resident) -> bool
+    requires span { IsSpan said.first said.pages }
+    ensures mapped { result ≡ true → (page : ℕ) → in_pages said.first said.pages page ≡ true
+        → is_some (page_at space.now.ranges page) ≡ true }
+    ensures none { result ≡ true → (page : ℕ) → in_pages said.first said.pages page ≡ true
+        → placed_at resident.now page ≡ None }
+{
+    if !is_in_one(space, said.first, said.pages) {
+        return false;
+    }
+    let Some(range) = range_of(space, said.first) else {
+        return false;
+    };
+    keeps_none(resident, &range, said.first, said.pages)
+}
+
+/// States where the mapped pages of a span lie, but of those that keep a frame. If one range has
+/// them all, and none keeps a frame, that is one edit; else it is done on a copy.
 pub(crate) fn state_others(
     places: &mut Places,
     space: &Space,
@@ -303,6 +323,14 @@ pub(crate) fn state_others(
         resident.now said.first said.pages said.node (spots_of places.old)) places.old result
         places.new }
 {
+    if is_bare(space, said, resident) {
+        let change = SpanChange {
+            first: said.first,
+            pages: said.pages,
+            change: Change::State(said.node),
+        };
+        return edit_places(places, change);
+    }
     let Ok(next) = others_copy(places, space, said, resident) else {
         return Err(PlacedRefusal::NoMemory);
     };
@@ -327,6 +355,9 @@ pub(crate) fn state_others_within(
     ensures unchanged { OnErr result (places.new ≡ places.old) }
     ensures kept_rooms { OnErr result (rooms.new ≡ rooms.old) }
 {
+    if is_bare(space, said, resident) {
+        return state_places_within(places, said.first, said.pages, said.node, rooms);
+    }
     let Ok(next) = others_copy(places, space, said, resident) else {
         return Err(PlacedRefusal::NoMemory);
     };

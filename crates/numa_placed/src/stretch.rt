@@ -47,7 +47,7 @@ fn turns(policy: Option<Record>) -> bool
 }
 
 /// The range that has a page, if it is found.
-fn range_of(space: &Space, page: u64) -> Option<Run<RangeRecord>>
+pub(crate) fn range_of(space: &Space, page: u64) -> Option<Run<RangeRecord>>
     ensures low { IfSome result (λ range. range.first ≤ page) }
     ensures high { IfSome result (λ range. page < end_of range) }
     ensures end { IfSome result (λ range. end_of range ≤ 2 ^ 35) }
@@ -70,7 +70,12 @@ fn range_of(space: &Space, page: u64) -> Option<Run<RangeRecord>>
 
 /// Whether none of the `pages` pages from `first` on keeps a frame. They are counted as those of a
 /// range like this one.
-fn keeps_none(resident: &Resident, range: &Run<RangeRecord>, first: u64, pages: u64) -> bool
+pub(crate) fn keeps_none(
+    resident: &Resident,
+    range: &Run<RangeRecord>,
+    first: u64,
+    pages: u64,
+) -> bool
     requires { first + pages ≤ 2 ^ 35 }
     ensures { result ≡ true → (page : ℕ) → in_pages first pages page ≡ true
         → placed_at resident.now page ≡ None }

@@ -18,6 +18,7 @@ use crate::bound::Bound;
 use crate::change::{Change, SpanChange};
 use crate::edit::{let_go_places, put_places};
 use crate::in_turn::send_turns;
+use crate::once::{once_in, send_once};
 use crate::places::{Places, change_places, spot_of};
 use crate::rooms::Rooms;
 use crate::spot::Spot;
@@ -339,8 +340,9 @@ pub(crate) fn touch_pages(
     Ok(())
 }
 
-/// Sends the pages of a span that are to go, each to the first node of its list that has room.
-pub(crate) fn touch_span(
+/// Sends the pages of a span that are to go on a copy, so that nothing has changed if memory runs
+/// out.
+fn touch_copy(
     places: &mut Places,
     space: &Space,
     first: u64,
@@ -381,4 +383,33 @@ pub(crate) fn touch_span(
         }
         Err(lack) => Err(lack),
     }
+}
+
+/// Sends the pages of a span that are to go, each to the first node of its list that has room.
+/// If that is one edit, it is done where they lie, and else on a copy.
+pub(crate) fn touch_span(
+    places: &mut Places,
+    space: &Space,
+    first: u64,
+    pages: u64,
+    wants: &Wants<'_>,
+    touch: FaultingTask,
+    rooms: &mut Rooms,
+) -> Result<Bound, PlacedRefusal>
+    requires within { first + pages ≤ 2 ^ 35 }
+    requires stored { IsStored places.old }
+    ensures stored { IsStored places.new }
+    ensures bound { (room : ℕ → ℕ) → AreRooms rooms.old room → IfOk result (IsBound
+        (asked_by space.now wants.now first pages touch.task touch.cpu) (spots_of places.old) room
+        (spots_of places.new) rooms.new) }
+    ensures lack { (room : ℕ → ℕ) → AreRooms rooms.old room → IfErr result (IsLack (bound_spots
+        (asked_by space.now wants.now first pages touch.task touch.cpu) (spots_of places.old)
+        room)) }
+    ensures unchanged { OnErr result (places.new ≡ places.old) }
+    ensures kept_rooms { OnErr result (rooms.new ≡ rooms.old) }
+{
+    if let Some(once) = once_in(places, space, first, first + pages, wants, touch, rooms) {
+        return send_once(places, once, rooms);
+    }
+    touch_copy(places, space, first, pages, wants, touch, rooms)
 }

@@ -19,8 +19,12 @@ returns c =
     touches c.args.placed.now c.populate.new.self c.args.rooms.now
     (ground_in c.args.space.now c.args.resident.now) c.args.start c.args.length c.args.task
     c.args.cpu c.populate.new.rooms c.rooms_if.result c.in_ok-bound.bound
-    c.stated_counts-before.result c.stated_counts-after.result c.more-on.result
+    c.pages_below-first.result.0 c.pages_below-first.result.1
+    c.counts_in-before.result c.counts_in-after.result c.more-on.result
     c.in_ok-bound.ensures.accepted
     (λ room have. c.in_ok-bound.ensures.ok (rooms_of room) (c.rooms_of-left.ensures room have))
-    c.rooms_if.ensures c.stated_counts-before.ensures
-    c.stated_counts-after.ensures c.more-on.ensures
+    c.rooms_if.ensures (record {
+      within = c.pages_below-first.ensures.within;
+      low = c.pages_below-first.ensures.low;
+      high = c.pages_below-first.ensures.high;
+    }) c.counts_in-before.ensures c.counts_in-after.ensures c.more-on.ensures
