@@ -128,40 +128,16 @@ pub struct Reading {
     pub heeds_at: bool,
 }
 
-/// Scripts that are played, and the areas that they name.
+/// Scripts that are played, and the areas that they name; or, behind them, further texts, of which
+/// only the lines count that state where pages lie: these are played too.
 #[derive(Drop)]
 struct Reader<T> {
-    findings: Findings<T>,
-    areas: Areas,
-}
-
-impl<T: Write> TakeLine<()> for Reader<T> {
-    fn take(
-        &mut self,
-        name: &str,
-        place: u64,
-        line: &[u8],
-        output: &mut (),
-    ) -> Result<(), RunFault> {
-        if self.areas.read(line).is_err() {
-            return Err(RunFault::Memory);
-        }
-        self.findings.take(name, place, line, output)
-    }
-
-    fn hand_over(&mut self, output: &mut ()) -> Result<(), RunFault> {
-        self.findings.hand_over(output)
-    }
-}
-
-/// Further texts, of which only the lines count that state where pages lie: behind the scripts they
-/// are played too.
-#[derive(Drop)]
-struct AtReader<T> {
     alloc: Global,
     findings: Findings<T>,
-    // The process of a host that lines mean which name none.
+    areas: Areas,
+    // The process of a host that lines of further texts mean which name none.
     process: Option<u32>,
+    is_behind: bool,
 }
 
 /// A line as a process is told it.
@@ -174,7 +150,7 @@ fn told_line(alloc: Global, process: u32, line: &[u8]) -> Result<Vec<u8>, AllocE
     text
 }
 
-impl<T: Write> AtReader<T> {
+impl<T: Write> Reader<T> {
     /// Plays a line that a process is told.
     fn take_told(
         &mut self,
@@ -198,9 +174,19 @@ impl<T: Write> AtReader<T> {
             None => None,
         }
     }
+
+    /// Plays a line of a further text.
+    fn take_behind(&mut self, name: &str, place: u64, line: &[u8]) -> Result<(), RunFault> {
+        // (In the place of other lines stand empty ones, so that each text has a first line.)
+        match (read_at(line), self.meant()) {
+            (AtLine::Other, _) => self.findings.take(name, place, b"", &mut ()),
+            (AtLine::Unnamed, Some(process)) => self.take_told(name, place, process, line),
+            _ => self.findings.take(name, place, line, &mut ()),
+        }
+    }
 }
 
-impl<T: Write> TakeLine<()> for AtReader<T> {
+impl<T: Write> TakeLine<()> for Reader<T> {
     fn take(
         &mut self,
         name: &str,
@@ -208,12 +194,13 @@ impl<T: Write> TakeLine<()> for AtReader<T> {
         line: &[u8],
         output: &mut (),
     ) -> Result<(), RunFault> {
-        // (In the place of other lines stand empty ones, so that each text has a first line.)
-        match (read_at(line), self.meant()) {
-            (AtLine::Other, _) => self.findings.take(name, place, b"", output),
-            (AtLine::Unnamed, Some(process)) => self.take_told(name, place, process, line),
-            _ => self.findings.take(name, place, line, output),
+        if self.is_behind {
+            return self.take_behind(name, place, line);
         }
+        if self.areas.read(line).is_err() {
+            return Err(RunFault::Memory);
+        }
+        self.findings.take(name, place, line, output)
     }
 
     fn hand_over(&mut self, output: &mut ()) -> Result<(), RunFault> {
@@ -253,18 +240,23 @@ fn begin<T: Write + Drop>(
         return Err(Halt::Stopped(RunFault::Memory));
     }
     Ok(Reader {
+        alloc,
         findings,
         areas: Areas::new(alloc),
+        process,
+        is_behind: false,
     })
 }
 
 /// Scripts that were played, and areas with names.
-fn played_of<T: Write>(
-    alloc: Global,
-    findings: Findings<T>,
-    mut areas: Areas,
-    process: Option<u32>,
-) -> Played<T> {
+fn played_of<T: Write>(read: Reader<T>) -> Played<T> {
+    let Reader {
+        alloc,
+        findings,
+        mut areas,
+        process,
+        ..
+    } = read;
     areas.sort();
     Played {
         findings,
@@ -274,32 +266,14 @@ fn played_of<T: Write>(
     }
 }
 
-/// Plays the texts of scripts.
-fn read_scripts<S: Read + Drop, T: Write + Drop>(
+/// Plays texts behind those that were read.
+fn read_texts<S: Read + Drop, T: Write + Drop>(
     alloc: Global,
     texts: Vec<(String, S)>,
     before: Reader<T>,
 ) -> Result<Reader<T>, Halt> {
     match read_by(alloc, texts, before) {
         Ok(read) => Ok(read),
-        Err(why) => Err(Halt::Stopped(why)),
-    }
-}
-
-/// Plays the lines of further texts that state where pages lie.
-fn read_at_lines<A: Read + Drop, T: Write + Drop>(
-    alloc: Global,
-    texts: Vec<(String, A)>,
-    findings: Findings<T>,
-    process: Option<u32>,
-) -> Result<Findings<T>, Halt> {
-    let before = AtReader {
-        alloc,
-        findings,
-        process,
-    };
-    match read_by(alloc, texts, before) {
-        Ok(AtReader { findings, .. }) => Ok(findings),
         Err(why) => Err(Halt::Stopped(why)),
     }
 }
@@ -323,26 +297,23 @@ pub fn play_there<S: Read + Drop, A: Read + Drop, T: Write + Drop>(
         process,
     } = scripts;
     let read = match begin(alloc, rules, process, how, told) {
-        Ok(before) => read_scripts(alloc, texts, before),
+        Ok(before) => read_texts(alloc, texts, before),
         Err(halt) => {
             drop(texts);
             Err(halt)
         }
     };
-    let read = match read {
+    let mut read = match read {
         Ok(read) => read,
         Err(halt) => {
             drop(texts_at);
             return Err(halt);
         }
     };
-    let Reader { findings, areas } = read;
-    match read_at_lines(alloc, texts_at, findings, process) {
-        Ok(findings) => Ok(played_of(alloc, findings, areas, process)),
-        Err(halt) => {
-            drop(areas);
-            Err(halt)
-        }
+    read.is_behind = true;
+    match read_texts(alloc, texts_at, read) {
+        Ok(read) => Ok(played_of(read)),
+        Err(halt) => Err(halt),
     }
 }
 
