@@ -176,23 +176,6 @@ pub(crate) fn both_rows(one: [u64; 256], other: &[u64; 256]) -> [u64; 256]
     sum
 }
 
-/// How many pages of 4 KiB a move took along, and left.
-fn small_shift(last: &Last) -> Shift
-    ensures { (done : LastMove) → LastAs last.now done
-        → (result.moved ≡ (sent_last done).moved) × (result.left ≡ (sent_last done).left) }
-{
-    match last {
-        Last::Nodes(moved) => Shift {
-            moved: moved.moved,
-            left: moved.left,
-        },
-        Last::Pages(gone) => Shift {
-            moved: gone.moved,
-            left: gone.left,
-        },
-    }
-}
-
 /// How many pages of 4 KiB went from a node to each.
 fn small_row(last: &Last, from: u8) -> [u64; 256]
     ensures { (done : LastMove) → LastAs last.now done → (to : ℕ) → to < 256
@@ -219,14 +202,27 @@ fn add_both(flows: &mut Vec<Flow>, last: &Last, huge: &HugeLast) -> Result<(), N
     Ok(())
 }
 
-/// How many pages of both sizes a move took along, and left, at most 2^64 - 1 each.
-fn both_shifts(small: Shift, huge: &HugeLast) -> Shift
-    ensures moved { result.moved ≡ both_pages small.moved (moved_of huge.now) }
-    ensures left { result.left ≡ both_pages small.left (left_of huge.now) }
+/// How many pages of both sizes a move took along, and left, by those of 4 KiB; at most 2^64 - 1
+/// each.
+fn shift_with(moved: u64, left: u64, huge: &HugeLast) -> Shift
+    ensures moved { result.moved ≡ both_pages moved (moved_of huge.now) }
+    ensures left { result.left ≡ both_pages left (left_of huge.now) }
 {
     Shift {
-        moved: small.moved.saturating_add(huge.moved()),
-        left: small.left.saturating_add(huge.left()),
+        moved: moved.saturating_add(huge.moved()),
+        left: left.saturating_add(huge.left()),
+    }
+}
+
+/// The same of a move.
+fn both_shifts(last: &Last, huge: &HugeLast) -> Shift
+    ensures { (done : LastMove) → LastAs last.now done
+        → (result.moved ≡ both_pages (sent_last done).moved (moved_of huge.now))
+        × (result.left ≡ both_pages (sent_last done).left (left_of huge.now)) }
+{
+    match last {
+        Last::Nodes(moved) => shift_with(moved.moved, moved.left, huge),
+        Last::Pages(gone) => shift_with(gone.moved, gone.left, huge),
     }
 }
 
@@ -237,8 +233,7 @@ fn both_flows(alloc: Global, last: &Last, huge: &HugeLast) -> Result<LastFlows, 
         → IfOk result (TellsSent (sent_with (Some memory) (sent_last done))) }
 {
     let mut flows = Vec::new(alloc);
-    let small = small_shift(last);
-    let sum = both_shifts(small, huge);
+    let sum = both_shifts(last, huge);
     let added = add_both(&mut flows, last, huge);
     with_flows(flows, added, sum.moved, sum.left)
 }
