@@ -15,8 +15,8 @@ use Rattle.numaplan_c.specs.Compared.{IsListed}
 use Rattle.numaplan_c.specs.Hosts.{reply_code, told_code}
 use Rattle.numaplan_c.specs.Placed.{TellsArrived, TellsNode, done_code}
 use Rattle.numaplan_c.specs.Texts.{copy_code}
-use Rattle.numaplan_c.specs.declared.placed_moves.NpArrived.{NpArrived}
-use Rattle.numaplan_c.specs.declared.placed_moves.NpBound.{NpBound}
+use Rattle.numaplan_c.specs.declared.moves.NpArrived.{NpArrived}
+use Rattle.numaplan_c.specs.declared.moves.NpBound.{NpBound}
 use Rattle.numaplan_handles.specs.Handles.{host_in}
 use Rattle.numaplan_handles.specs.Hosted.{ChangesPages, DoesHuge, DoesOwnHuge, TouchesIn}
 use Rattle.numaplan_handles.specs.Hosts.{OfRunning}

@@ -19,10 +19,10 @@ use Rattle.numa_script.specs.declared.policy.WordError.{WordError}
 use Rattle.numaplan_c.specs.Bound.{bound_spec, page_rules_in}
 use Rattle.numaplan_c.specs.Codes.{refusal_code, word_code}
 use Rattle.numaplan_c.specs.Compared.{IsListed}
-use Rattle.numaplan_c.specs.declared.placed_moves.NpBound.{NpBound}
-use Rattle.numaplan_c.specs.declared.placed_moves.NpMoves.{NpMoves}
-use Rattle.numaplan_c.specs.declared.placed_moves.NpArrived.{NpArrived}
-use Rattle.numaplan_c.specs.declared.placed_pools.NpHugePools.{NpHugePools}
+use Rattle.numaplan_c.specs.declared.moves.NpBound.{NpBound}
+use Rattle.numaplan_c.specs.declared.moves.NpMoves.{NpMoves}
+use Rattle.numaplan_c.specs.declared.moves.NpArrived.{NpArrived}
+use Rattle.numaplan_c.specs.declared.moves.NpHugePools.{NpHugePools}
 use Rattle.numaplan_handles.specs.Handles.{pages_in}
 use Rattle.numaplan_handles.specs.Pages.{OfPages}
 use Rattle.numaplan_handles.specs.declared.pages_handle.PagesHandle.{PagesHandle}

@@ -7,27 +7,30 @@ ghost use Rattle.numa_mask.specs.Words.{number_of};
 ghost use Rattle.numa_mode.specs.Policy.{raw_specification};
 ghost use Rattle.numa_script.specs.Policies.{policy_of};
 ghost use Rattle.numa_requests.specs.declared.command.Command.{Command};
-ghost use Rattle.numaplan_c.specs.Bound.{bound_spec, home_of, host_rules_in, spec_by};
+ghost use Rattle.numaplan_c.specs.Bound.{home_of};
 ghost use Rattle.numaplan_c.specs.Codes.{list_code, spec_code, word_code};
-ghost use Rattle.numaplan_c.specs.Hosts.{HostAnswers, HostAnswersRead};
+ghost use Rattle.numaplan_c.specs.Hosts.{HostAnswers, HostAnswersRead, reply_code};
 ghost use Rattle.numaplan_handles.specs.Handles.{host_in};
+ghost use Rattle.numa_script.specs.declared.page_line.PageLine.{PageLine};
+ghost use Rattle.numaplan_c.specs.Hosted.{HugeDone, PagesChange};
+ghost use Rattle.numa_script.specs.declared.huge_line.HugeLine.{HugeLine};
 
-use crate::binding::{bound_spec, home_of, host_rules, raw_spec, spec_by};
+use crate::binding::{home_of, raw_spec};
 use crate::codes::{list_code, spec_code, word_code};
-use crate::host_codes::reply_code;
+use crate::host_codes::{reply_code, told_code};
+use crate::host_pools::done;
 use crate::keeping::{if_open, or_return};
 use crate::nodes::NpNodes;
 use numa_machine::PageSize;
 use numa_mask::read_list;
-use numa_mode::PolicySpec;
 use numa_requests::{Command, HostCommand};
-use numa_script::WordError;
 use numa_script::policy::read_policy;
+use numa_script::{HugeLine, PageLine};
 use numaplan_handles::HostHandle;
 use std::alloc::Global;
 
 /// Carries out a command of the host in a handle, and returns the code of its result.
-fn obey(alloc: Global, host: &mut HostHandle, command: HostCommand) -> u32
+pub(crate) fn obey(alloc: Global, host: &mut HostHandle, command: HostCommand) -> u32
     ensures { HostAnswers (host_in host.old) command result (host_in host.new) }
 {
     if_open!(host.obey(alloc, &command), answer => reply_code(&answer))
@@ -208,61 +211,6 @@ pub extern "C" fn np_host_unmap(
     tell!(alloc, host, process => Unmap { start, length })
 }
 
-/// Sets the policy of the pages of a process's span, as it was read.
-fn bind(
-    alloc: Global,
-    host: &mut HostHandle,
-    process: u32,
-    start: u64,
-    length: u64,
-    said: Result<PolicySpec, WordError>,
-) -> u32
-    ensures { HostAnswersRead (bound_spec (host_rules_in (host_in host.old)) length said) word_code
-        (λ spec. HostCommand.In process (Command.Mbind start length spec)) (host_in host.old)
-        result (host_in host.new) }
-{
-    let rules = host_rules(alloc, host);
-    let spec = or_return!(bound_spec(rules, length, said), word_code);
-    tell!(alloc, host, process => Mbind { start, length, spec })
-}
-
-/// Sets the policy of the pages of a process's span.
-#[unsafe(no_mangle)]
-pub extern "C" fn np_host_mbind(
-    alloc: Global,
-    host: &mut HostHandle,
-    process: u32,
-    start: u64,
-    length: u64,
-    policy: &[u8],
-) -> u32
-    ensures { HostAnswersRead (bound_spec (host_rules_in (host_in host.old)) length
-        (policy_of policy.now)) word_code
-        (λ spec. HostCommand.In process (Command.Mbind start length spec)) (host_in host.old)
-        result (host_in host.new) }
-{
-    bind(alloc, host, process, start, length, read_policy(policy))
-}
-
-/// The same by a mode word and a set of nodes.
-#[unsafe(no_mangle)]
-pub extern "C" fn np_host_mbind_by(
-    alloc: Global,
-    host: &mut HostHandle,
-    process: u32,
-    start: u64,
-    length: u64,
-    mode: u32,
-    nodes: &NpNodes,
-) -> u32
-    ensures { HostAnswersRead (bound_spec (host_rules_in (host_in host.old)) length
-        (spec_by mode nodes.now)) word_code
-        (λ spec. HostCommand.In process (Command.Mbind start length spec)) (host_in host.old)
-        result (host_in host.new) }
-{
-    bind(alloc, host, process, start, length, spec_by(mode, nodes))
-}
-
 /// Sets the policy of a process's task.
 #[unsafe(no_mangle)]
 pub extern "C" fn np_host_set_task(
@@ -346,4 +294,46 @@ pub extern "C" fn np_host_home_by(
 {
     let node = or_return!(home_of(node, flags), spec_code);
     tell!(alloc, host, process => SetHome { start, length, node })
+}
+
+/// States that the mapped pages of a span of a process lie on a node.
+#[unsafe(no_mangle)]
+pub extern "C" fn np_host_place(
+    alloc: Global,
+    host: &mut HostHandle,
+    process: u32,
+    start: u64,
+    length: u64,
+    node: u32,
+) -> u32
+    ensures { PagesChange process (PageLine.At start length node) host.old result host.new }
+{
+    if_open!(host.change(alloc, process, &PageLine::At { start, length, node }), told => {
+        told_code(&told)
+    })
+}
+
+/// Maps a span of a process as pages of 2 MiB, which its task reserves or doesn't.
+#[unsafe(no_mangle)]
+pub extern "C" fn np_host_map_huge_for(
+    alloc: Global,
+    host: &mut HostHandle,
+    process: u32,
+    start: u64,
+    length: u64,
+    offset: u64,
+    task: u32,
+    reserve: bool,
+) -> u32
+    ensures { HugeDone process (HugeLine.Map start length offset task reserve) host.old result
+        host.new }
+{
+    let line = HugeLine::Map {
+        start,
+        length,
+        offset,
+        task,
+        reserves: reserve,
+    };
+    done(alloc, host, process, &line)
 }

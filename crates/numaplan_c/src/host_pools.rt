@@ -12,7 +12,7 @@ ghost use Rattle.numaplan_handles.specs.Hosted.{OfLying};
 
 use crate::host_codes::told_code;
 use crate::keeping::if_open;
-use crate::placed_pools::{NpHugePools, pools_told};
+use crate::moves::{NpHugePools, pools_told};
 use numa_script::{HugeLine, Reply};
 use numaplan_handles::HostHandle;
 use std::alloc::Global;
@@ -35,7 +35,7 @@ pub extern "C" fn np_host_pools(
 }
 
 /// Carries out a line about pools or pages of 2 MiB for a process.
-fn done(alloc: Global, host: &mut HostHandle, process: u32, line: &HugeLine) -> u32
+pub(crate) fn done(alloc: Global, host: &mut HostHandle, process: u32, line: &HugeLine) -> u32
     ensures { HugeDone process line.now host.old result host.new }
 {
     if_open!(host.huge(alloc, process, line), told => told_code(&told))
@@ -114,31 +114,6 @@ pub extern "C" fn np_host_pool_for(
         pages: count,
         task,
         cpu,
-    };
-    done(alloc, host, process, &line)
-}
-
-/// Maps a span of a process as pages of 2 MiB, which its task reserves or doesn't.
-#[unsafe(no_mangle)]
-pub extern "C" fn np_host_map_huge_for(
-    alloc: Global,
-    host: &mut HostHandle,
-    process: u32,
-    start: u64,
-    length: u64,
-    offset: u64,
-    task: u32,
-    reserve: bool,
-) -> u32
-    ensures { HugeDone process (HugeLine.Map start length offset task reserve) host.old result
-        host.new }
-{
-    let line = HugeLine::Map {
-        start,
-        length,
-        offset,
-        task,
-        reserves: reserve,
     };
     done(alloc, host, process, &line)
 }

@@ -5,7 +5,7 @@ use Rattle.numa_requests.specs.declared.host_command.HostCommand.TheVariants.{In
 use Rattle.numaplan_c.specs.Bound.{bound_spec, host_rules_in}
 use Rattle.numaplan_handles.specs.Handles.{host_in}
 use Rattle.numaplan_c.proofs.Hosting.{answered-bound}
-use Rattle.numaplan_c.proofs.host_commands.bind.Goals as goal
+use Rattle.numaplan_c.proofs.mbind.bind_in.Goals as goal
 
 pub returns : goal.returns
 returns c =
