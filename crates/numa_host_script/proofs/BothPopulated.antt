@@ -40,12 +40,14 @@ use Rattle.numa_host_script.proofs.Sharers.{has-in, has-there, huge-lies}
 use Rattle.numa_host_script.proofs.Spaces.{same-ground}
 
 -- there is no memory for the first pages of 4 KiB
-pub first-starved : (pages : HostPages) (process : ℕ) (basis : Ground) (start bytes task cpu : ℕ)
+pub first-starved : (pages pages_then : HostPages) (process : ℕ) (basis : Ground)
+    (start bytes task cpu : ℕ)
     → has_huge (spots_in process pages.huge.sharers) (huge_first (page_of start))
     (huge_count (page_of start) (page_count bytes)) ≡ true
-    → (at : HostLying) → pages_in process at.homes ≡ None → HostLies pages at
-    → PopulatesIn at process basis start bytes task cpu (Err NoMemory) pages
-first-starved pages process basis start bytes task cpu has at none lies =
+    → (at : HostLying) → HostLies pages at → pages_in process at.homes ≡ None
+    → HostLies pages_then at
+    → PopulatesIn at process basis start bytes task cpu (Err NoMemory) pages_then
+first-starved pages pages_then process basis start bytes task cpu has at lies none then_lies =
     let there = has-there pages.huge at.huge process lies.huge (huge_first (page_of start))
     (huge_count (page_of start) (page_count bytes)) has in
     let memory : HugeMemory = there.0 in
@@ -56,12 +58,12 @@ first-starved pages process basis start bytes task cpu has at none lies =
     (record (pages_lent process at) { begun = true })) process at) none in
     subst (λ (o : Option HugeMemory). IsSomeAnd o (λ m. (lacked : Lack)
     × ((populated_both lacked basis process start bytes task cpu m at).0 ≡ Err NoMemory)
-    × HostLies pages (populated_both lacked basis process start bytes task cpu m at).1))
+    × HostLies pages_then (populated_both lacked basis process start bytes task cpu m at).1))
     (sym there.1) (
       Starved,
       ap (λ (p : Result (Unit {0}) PlacedRefusal × HostLying). p.0) so,
-      subst (λ (p : Result (Unit {0}) PlacedRefusal × HostLying). HostLies pages p.1) (sym so)
-          lies,
+      subst (λ (p : Result (Unit {0}) PlacedRefusal × HostLying). HostLies pages_then p.1) (sym so)
+          then_lies,
     )
 
 -- what is lent leaves pages of 2 MiB as they are

@@ -25,6 +25,7 @@ use Rattle.numa_run.specs.declared.script.Script.{Script}
 use Rattle.numa_run.specs.declared.running.Taken.TheVariants as own
 use Rattle.numa_run.proofs.JudgeLemmas.{last_text, moved-text, rooms-text, rooms_left}
 use Rattle.numa_run.proofs.Taking.{malformed-is, maps-same, question-same, text-same}
+use Rattle.numa_host_script.specs.declared.lines.Shows.{Shows}
 use Rattle.numa_host_script.specs.Hosts.{plenty}
 use Rattle.numa_host_script.specs.Judged.{Starves, refused_where, session_fault}
 use Rattle.numa_host_script.specs.Judged.{session_refused}
@@ -34,7 +35,7 @@ use Rattle.numa_host_script.specs.Sessions.{asked_where, listed_where, session_a
 use Rattle.numa_host_script.specs.Sessions.{session_served}
 use Rattle.numa_host_script.specs.Standing.{StandsIn, told}
 use Rattle.numa_host_script.specs.Taking.{IsLeft, Left, Open, Pooled, Told, Touched, answer_left}
-use Rattle.numa_host_script.specs.Taking.{asks_move, asks_pools, fault_left, left_in, misplaced_reply}
+use Rattle.numa_host_script.specs.Taking.{fault_left, left_in, misplaced_reply, shown_by}
 use Rattle.numa_host_script.specs.declared.running.RunningHost.{RunningHost}
 use Rattle.numa_host_script.specs.declared.taking.HostTaken.{HostTaken}
 use Rattle.numa_host_script.specs.declared.taking.HostTaken.TheVariants as taken
@@ -124,16 +125,16 @@ own-fault lack state own.Arrived = refl
 own-fault lack state own.Pools = refl
 
 -- and as a host does: by a reply, by what its last move did, its pools, or its rooms
-abbrev pub misplaced_as : Option Reply → Bool → Bool → Hosting → Answer
-misplaced_as (Some answer) moves pools at = Replied answer
-misplaced_as None moves pools at = Shown (shown_text moves pools at)
+abbrev pub misplaced_as : Option Reply → Shows → Hosting → Answer
+misplaced_as (Some answer) asks at = Replied answer
+misplaced_as None asks at = Shown (shown_text asks at)
 
 abbrev pub misplaced_fault : Option Reply → Option Reply
 misplaced_fault (Some answer) = fault_in answer
 misplaced_fault None = None
 
 pub misplaced-answer : (lack : HostLack) (at : Hosting) (found : Taken)
-    → misplaced_as (misplaced_reply found) (asks_move found) (asks_pools found) at
+    → misplaced_as (misplaced_reply found) (shown_by found) at
     ≡ answer_left lack (Hosted at) (left_in (taken.Own found))
 unfolding session_served
 misplaced-answer lack at (own.Reply answer) = refl

@@ -2,7 +2,7 @@
 use Rattle.std.proofs.Common.{◌≡◌, ℕ, Bool, true, false, Box, Option, Some, None, List, [], ◌∷◌}
 use Rattle.std.proofs.Common.{map, eqb, refl, sym, ap, subst, ◌∙◌, inl, inr}
 use Rattle.std.proofs.lemmas.Bool.{cases_Bool}
-use Rattle.std.specs.Prelude.{if◌then◌else◌}
+use Rattle.std.specs.Prelude.{◌&&◌, if◌then◌else◌, is_some, not}
 use Rattle.std.specs.Global.{Global}
 use Rattle.numa_requests.specs.declared.host_command.HostCommand.{HostCommand}
 use Rattle.numa_page_state.specs.Lying.{Lying, nothing}
@@ -16,6 +16,7 @@ use Rattle.numa_host_pages.specs.declared.member.Member.{Member}
 use Rattle.numa_host_pages.specs.declared.pages.HostPages.{HostPages}
 use Rattle.numa_host_pages.proofs.Arrived.{along-arrivals}
 use Rattle.numa_host_script.specs.Paging.{along_if}
+use Rattle.numa_host_script.specs.Standing.{IsOut}
 
 -- ---- a process without pages
 
@@ -61,6 +62,46 @@ some-lent state (Some lying) at is = (lying, refl, is)
 pub none-lent : (had : Option Lying) (at : HostLying) → IsLent None had at → had ≡ None
 none-lent None at is = refl
 none-lent (Some lying) at is = absurd is
+
+pub and-false : (b : Bool) → b && false ≡ false
+and-false true = refl
+and-false false = refl
+
+pub not-both : (b : Bool) → b ≡ true → b ≡ false → ⊥
+not-both b is not = cc
+
+out-had : (P : Type 0) (out : HostPages) (state : PageState) (first refused : Bool) (process : ℕ)
+    (at : HostLying) (had : Option Lying) → pages_in process at.homes ≡ had
+    → first ≡ not (is_some had) → LiesAs state (lent_or_new at.room at.follows had)
+    → HostLies out (record at { homes = with_pages process None at.homes })
+    → ((lying : Lying) → pages_in process at.homes ≡ Some lying
+    → LiesAs state (lent at.room at.follows lying) → first && refused ≡ false → P)
+    → (pages_in process at.homes ≡ None → LiesAs state (lent at.room at.follows nothing)
+    → refused ≡ false → first && refused ≡ false → P)
+    → (pages_in process at.homes ≡ None → LiesAs state (lent at.room at.follows nothing)
+    → HostLies out at → refused ≡ true → first && refused ≡ true → P) → P
+out-had P out state first refused process at (Some lying) is f has lies own begun none =
+    own lying is has (ap (λ (b : Bool). b && refused) f)
+out-had P out state first refused process at None is f has lies own begun none =
+    elim (cases_Bool refused) [
+      | inl t ↦ none is has (none-in out process at is lies) t
+          (ap (λ (b : Bool). b && refused) f ∙ t)
+      | inr e ↦ begun is has e (ap (λ (b : Bool). b && refused) f ∙ e)
+    ]
+
+-- what holds where pages were a process's own, where they are its first, and where it is to have
+-- none
+pub by-out : (P : Type 0) (out : HostPages) (state : PageState) (first refused : Bool)
+    (process : ℕ) (at : HostLying) → IsOut out state first process at
+    → ((lying : Lying) → pages_in process at.homes ≡ Some lying
+    → LiesAs state (lent at.room at.follows lying) → first && refused ≡ false → P)
+    → (pages_in process at.homes ≡ None → LiesAs state (lent at.room at.follows nothing)
+    → refused ≡ false → first && refused ≡ false → P)
+    → (pages_in process at.homes ≡ None → LiesAs state (lent at.room at.follows nothing)
+    → HostLies out at → refused ≡ true → first && refused ≡ true → P) → P
+by-out P out state first refused process at is own begun none =
+    out-had P out state first refused process at (pages_in process at.homes) refl is.0 is.1 is.2
+    own begun none
 
 pub lent-some : (process : ℕ) (at : HostLying) (lying : Lying)
     → pages_in process at.homes ≡ Some lying

@@ -2,10 +2,8 @@
 use Rattle.std.proofs.Common.{◌≡◌, ℕ, suc, Bool, true, false, Option, Some, None, Result, Ok, Err}
 use Rattle.std.proofs.Common.{List, [], ◌∷◌, length, refl, sym, ap, subst, ◌∙◌, inl, inr, is_some}
 use Rattle.std.proofs.lemmas.Bool.{cases_Bool}
-use Rattle.std.specs.Prelude.{Box, if◌then◌else◌}
-use Rattle.std.specs.Global.{Global}
+use Rattle.std.specs.Prelude.{if◌then◌else◌}
 use Rattle.numa_space.specs.Standing.{SpaceState, StandsFor}
-use Rattle.numa_placed.specs.declared.spot.Spot.{Spot}
 use Rattle.numa_requests.specs.declared.command.Command.{Command}
 use Rattle.numa_requests.specs.declared.host_command.HostCommand.{HostCommand}
 use Rattle.numa_requests.specs.declared.host_command.HostCommand.TheVariants.{In}
@@ -21,12 +19,12 @@ use Rattle.numa_host_huge.specs.Sharing.{Sharing, memory_in}
 use Rattle.numa_host_huge.specs.Standing.{HugeLies}
 use Rattle.numa_host_pages.specs.Homes.{HostLying, given_back, lent, pages_in}
 use Rattle.numa_host_pages.specs.Homes.{taken_along, with_pages}
-use Rattle.numa_host_pages.specs.Standing.{AreOf, HostLies, IsLent}
+use Rattle.numa_host_pages.specs.Standing.{AreOf, HostLies}
 use Rattle.numa_host_pages.specs.declared.pages.HostPages.{HostPages}
 use Rattle.numa_page_state.specs.Lying.{Lying, Process, nothing}
 use Rattle.numa_page_state.specs.Lying.{process_in as process_by}
 use Rattle.numa_page_state.specs.Outcomes.{Enough, Lack, Starved, is_starved, lack_told}
-use Rattle.numa_page_state.specs.Sending.{asked_of, command_of, rebinding_in, sent_in, sent_spots}
+use Rattle.numa_page_state.specs.Sending.{asked_of, command_of, rebinding_in, sent_in}
 use Rattle.numa_page_state.specs.Sending.{tells_left, with_sent}
 use Rattle.numa_page_state.specs.Standing.{LiesAs, Sends}
 use Rattle.numa_page_state.specs.declared.last.Last.TheVariants as went
@@ -39,17 +37,17 @@ use Rattle.numa_script.specs.declared.reply.Reply.{Reply}
 use Rattle.numa_script.specs.declared.reply.Reply.TheVariants as reply
 use Rattle.numa_run.specs.Obeying.{toucher_of}
 use Rattle.numa_run.specs.Replies.{Replied, reply_in}
-use Rattle.numa_host_script.specs.Hosts.{Hosting, HostLack, Outcome, process_outcome, with_reply}
+use Rattle.numa_host_script.specs.Hosts.{Hosting, Outcome, process_outcome, with_reply}
 use Rattle.numa_host_script.specs.Paging.{lying_with, moved_by, own_cause, pages_at}
 use Rattle.numa_host_script.specs.Paging.{pages_reply, process_in, sent_outcome, sent_unless}
 use Rattle.numa_host_script.specs.Paging.{sent_where, sent_with, small_sent, takes_more}
 use Rattle.numa_host_script.specs.Paging.{unless_pages}
 use Rattle.numa_host_script.specs.Standing.{Answers, HostRuns, IsSentTo, Replies, RepliesThere}
-use Rattle.numa_host_script.specs.Standing.{RunsAs, SendsFound, SendsIn, SendsLent, hosting_with}
+use Rattle.numa_host_script.specs.Standing.{RunsAs, SendsFound, SendsIn, hosting_with}
 use Rattle.numa_host_script.specs.declared.running.RunningHost.{RunningHost}
 use Rattle.numa_host_script.proofs.Bindings.{nobody-takes}
-use Rattle.numa_host_script.proofs.Lent.{along-are, given-are, lent-none, lent-some, none-in}
-use Rattle.numa_host_script.proofs.Lent.{none-lent, none-out, same-back, some-lent}
+use Rattle.numa_host_script.proofs.Lent.{along-are, given-are, lent-none, lent-some}
+use Rattle.numa_host_script.proofs.Lent.{same-back}
 use Rattle.numa_host_script.proofs.Spaces.{own-space, same-process}
 use Rattle.numa_host_script.proofs.Unmapped.{cause-some, flag, refused-plain}
 
@@ -269,8 +267,8 @@ module _ (host : HostState) (pages pages_mid pages_then : HostPages) (state afte
       → HostLies pages_mid (record at { homes = with_pages process None at.homes })
       → LiesAs after done → HostLies pages_then (given_back process done at)
 
-  -- the pages went
-  sent-given : (pages_last : HostPages) (answer : Reply)
+  -- the pages went, its own ones or its first
+  pub sent-given : (pages_last : HostPages) (answer : Reply)
       → SendsIn host pages.huge state (Ok answer) new pages_mid.huge after process said
       words
       → Keeps → Gives → Goes pages_last → (at : Hosting) → HostRuns host at
@@ -297,19 +295,15 @@ module _ (host : HostState) (pages pages_mid pages_then : HostPages) (state afte
         }),
       )
 
-  pub lent-sent : (pages_last : HostPages) (answer : Reply)
-      → SendsIn host pages.huge state (Ok answer) new pages_mid.huge after process said
-      words → Keeps → Gives → Goes pages_last
-      → SendsLent host pages state answer (moved pages_last) process said words
-  lent-sent pages_last answer sends keeps gives goes = λ at lying runs are is out has more.
-      sent-given pages_last answer sends keeps gives goes at runs are more
-      (subst (λ (l : Lying). LiesAs state l) (sym (lent-some process at.lying lying is)) has) out
-
   -- they are as they were
   pub lent-kept : (answer : Reply)
       → SendsIn host pages.huge state (Err answer) new pages_mid.huge after process said words
-      → Keeps → Gives → SendsLent host pages state answer given process said words
-  lent-kept answer sends keeps gives = λ at lying runs are is out has more.
+      → Keeps → Gives → (at : Hosting) → HostRuns host at → AreOf at.lying at.history
+      → takes_more at process ≡ true → (lying : Lying) → pages_in process at.lying.homes ≡ Some lying
+      → LiesAs state (lent at.lying.room at.lying.follows lying)
+      → HostLies pages (record at.lying { homes = with_pages process None at.lying.homes })
+      → IsSentTo answer given at process said words
+  lent-kept answer sends keeps gives at runs are more lying is has out =
       let from : Lying = lent at.lying.room at.lying.follows lying in
       let d = sends at runs out.huge more
       (subst (λ (l : Lying). LiesAs state l) (sym (lent-some process at.lying lying is)) has) in
@@ -328,52 +322,26 @@ module _ (host : HostState) (pages pages_mid pages_then : HostPages) (state afte
         }),
       )
 
-  -- first pages are kept where they went
-  abbrev pub before : RunningHost
-  before = record { host = host; pages = pages }
-
-  runs-before : (at : Hosting) → RunsAs before at → HostRuns host at
-  runs-before at stands = record {
-    machine = stands.machine;
-    bounds = stands.bounds;
-    stands = stands.stands;
-  }
-
-  first-lies : ((at : HostLying) → HostLies pages at
-      → LiesAs state (lent at.room at.follows nothing))
-      → (at : Hosting) → RunsAs before at → pages_in process at.lying.homes ≡ None
-      → LiesAs state (pages_at at process)
-  first-lies begins at stands none = subst (λ (l : Lying). LiesAs state l)
-      (sym (lent-none process at.lying none)) (begins at.lying stands.lies)
-
-  pub first-sent : (pages_last : HostPages) (answer : Reply)
-      → SendsIn host pages.huge state (Ok answer) new pages_mid.huge after process said
-      words → Keeps → Gives → Goes pages_last
-      → ((at : HostLying) → HostLies pages at → LiesAs state (lent at.room at.follows nothing))
-      → (at : Hosting) → RunsAs before at → pages_in process at.lying.homes ≡ None
-      → takes_more at process ≡ true → IsSentTo answer (moved pages_last) at process said words
-  first-sent pages_last answer sends keeps gives goes begins at stands none more =
-      sent-given pages_last answer sends keeps gives goes at (runs-before at stands) stands.are more
-      (first-lies begins at stands none) (none-out pages process at.lying none stands.lies)
-
+  -- its first ones aren't kept
   pub first-kept : (answer : Reply)
       → SendsIn host pages.huge state (Err answer) new pages_mid.huge after process said words
-      → ((at : HostLying) → HostLies pages at → LiesAs state (lent at.room at.follows nothing))
-      → (at : Hosting) → RunsAs before at → pages_in process at.lying.homes ≡ None
-      → takes_more at process ≡ true → Keeps
-      → IsSentTo answer (record { host = new; pages = pages_mid }) at process said words
-  first-kept answer sends begins at stands none more keeps =
-      let d = sends at (runs-before at stands) stands.lies.huge more
-      (first-lies begins at stands none) in
-      let same : RunningHost = record { host = new; pages = pages_mid } in (
+      → Keeps → pages_then ≡ pages_mid → (at : Hosting) → HostRuns host at
+      → AreOf at.lying at.history → takes_more at process ≡ true
+      → pages_in process at.lying.homes ≡ None
+      → LiesAs state (lent at.lying.room at.lying.follows nothing) → HostLies pages at.lying
+      → IsSentTo answer given at process said words
+  first-kept answer sends keeps gone at runs are more none has lies =
+      let d = sends at runs lies.huge more
+      (subst (λ (l : Lying). LiesAs state l) (sym (lent-none process at.lying none)) has) in (
         flag d.0,
         sym (ap (λ (o : Outcome). reply_in o.answer) d.1),
-        subst (λ (o : Outcome). RunsAs same (hosting_with at o)) (sym d.1) (record {
+        subst (λ (o : Outcome). RunsAs given (hosting_with at o)) (sym d.1) (record {
           machine = d.2.machine;
           bounds = d.2.bounds;
           stands = d.2.stands;
-          lies = keeps-rest keeps at.lying at.lying.huge stands.lies d.4;
-          are = stands.are;
+          lies = subst (λ (p : HostPages). HostLies p at.lying) (sym gone)
+              (keeps-rest keeps at.lying at.lying.huge lies d.4);
+          are = are;
         }),
       )
 
@@ -382,47 +350,6 @@ pub first-starved : (running : RunningHost) (process : ℕ) (said : Rebinding) (
     (at : Hosting) → RunsAs running at
     → IsSentTo (pages_reply cause.NoMemory) running at process said words
 first-starved running process said words at stands = (flag Starved, refl, stands)
-
--- ---- mbind .. move
-
-module _ (old : RunningHost) (process : ℕ) (said : Rebinding) (words : MoveWords)
-    (pages : HostPages) (new : RunningHost) (answer : Reply) where
-  abbrev pub sends : HostLack → Hosting → Outcome
-  sends lack at =
-      sent_unless lack.lacked (own_cause at process (command_of said)) at process said words
-
-  pub send-some : (state : Box PageState Global)
-      → ((at : HostLying) → HostLies old.pages at
-      → IsLent (Some state) (pages_in process at.homes) at
-      × HostLies pages (record at { homes = with_pages process None at.homes }))
-      → SendsLent old.host pages state.value answer new process said words
-      → RepliesThere old answer new process sends
-  send-some state lends sent = λ at stands more.
-      let out = lends at.lying stands.lies in
-      let had = some-lent state (pages_in process at.lying.homes) at.lying out.0 in
-      sent at had.0 (record {
-        machine = stands.machine;
-        bounds = stands.bounds;
-        stands = stands.stands;
-      }) stands.are had.1 out.1 had.2 more
-
-  pub send-none : ((at : HostLying) → HostLies old.pages at
-      → IsLent None (pages_in process at.homes) at
-      × HostLies pages (record at { homes = with_pages process None at.homes }))
-      → ((at : Hosting) → RunsAs (record { host = old.host; pages = pages }) at
-      → pages_in process at.lying.homes ≡ None → takes_more at process ≡ true
-      → IsSentTo answer new at process said words)
-      → RepliesThere old answer new process sends
-  send-none lends sent = λ at stands more.
-      let out = lends at.lying stands.lies in
-      let none = none-lent (pages_in process at.lying.homes) at.lying out.0 in
-      sent at (record {
-        machine = stands.machine;
-        bounds = stands.bounds;
-        stands = stands.stands;
-        lies = none-in pages process at.lying none out.1;
-        are = stands.are;
-      }) none more
 
 -- by the policy that the command sets
 pub moved-some : (old new : RunningHost) (answer : Reply) (process : ℕ) (command : Command)

@@ -33,6 +33,7 @@ use Rattle.numa_run.specs.declared.running.Taken.{Taken}
 use Rattle.numa_run.specs.declared.running.Taken.TheVariants as own
 use Rattle.numa_run.specs.declared.script.Script.{Script}
 use Rattle.numa_run.proofs.JudgeLemmas.{cause-starved, reply-starved}
+use Rattle.numa_host_script.specs.declared.lines.Shows.{Shows}
 use Rattle.numa_host_script.specs.Hosts.{plenty}
 use Rattle.numa_host_script.specs.Judged.{Starves}
 use Rattle.numa_host_script.specs.Paging.{arrived_text, memory_at, pages_at, process_in, shown_text}
@@ -40,7 +41,7 @@ use Rattle.numa_host_script.specs.Sessions.{Hosted, Hosting, HostLack, Session, 
 use Rattle.numa_host_script.specs.Sessions.{session_after, session_answer, session_served}
 use Rattle.numa_host_script.specs.Standing.{RunsAs, StandsIn, told}
 use Rattle.numa_host_script.specs.Taking.{IsLeft, Left, Open, Pooled, Told, Touched, answer_left}
-use Rattle.numa_host_script.specs.Taking.{asks_move, asks_pools, fault_left, left_in}
+use Rattle.numa_host_script.specs.Taking.{fault_left, left_in, shown_by}
 use Rattle.numa_host_script.specs.Taking.{misplaced_reply}
 use Rattle.numa_host_script.specs.declared.running.RunningHost.{RunningHost}
 use Rattle.numa_host_script.specs.declared.taking.HostTaken.{HostTaken}
@@ -88,8 +89,7 @@ module _ {W : Type 0} (contents : W → Option (List ℕ)) (output output_then :
   misplaced-at : (script : Script) (limits : Bounds) (host : RunningHost) (found : Taken)
       (shown : Option Reply) (lacks : Bool) (at : Hosting) → shown ≡ misplaced_reply found
       → RunsAs host at
-      → Said contents output output_then (bytes_of (misplaced_as shown (asks_move found)
-      (asks_pools found) at))
+      → Said contents output output_then (bytes_of (misplaced_as shown (shown_by found) at))
       → (IsTrue lacks ↔ IsSomeAnd (misplaced_fault shown) LacksMemory)
       → WritesAt (left_in (taken.Own found)) lacks script limits (Some host) (Hosted at)
   misplaced-at script limits host found shown lacks at is stands said starved = (
@@ -97,7 +97,7 @@ module _ {W : Type 0} (contents : W → Option (List ℕ)) (output output_then :
     stands,
     said_same contents output output_then _ _
         (ap (λ (s : Option Reply).
-        bytes_of (misplaced_as s (asks_move found) (asks_pools found) at)) is
+        bytes_of (misplaced_as s (shown_by found) at)) is
         ∙ ap bytes_of (misplaced-answer plenty at found)) said,
     subst (λ (o : Option Reply). IsTrue lacks ↔ IsSomeAnd o LacksMemory)
         (ap misplaced_fault is ∙ misplaced-fault plenty at found) starved,
@@ -116,13 +116,13 @@ module _ {W : Type 0} (contents : W → Option (List ℕ)) (output output_then :
       (reply-starved answer lacks starved)
 
   -- what its last move did, its pools, or its rooms
-  abbrev pub TellsShown : RunningHost → Bool → Bool → Type 0
-  TellsShown host moves pools = (at : Hosting) → RunsAs host at
-      → Said contents output output_then (shown_text moves pools at)
+  abbrev pub TellsShown : RunningHost → Shows → Type 0
+  TellsShown host asks = (at : Hosting) → RunsAs host at
+      → Said contents output output_then (shown_text asks at)
 
   pub written-shown : (script : Script) (limits : Bounds) (host : RunningHost) (found : Taken)
       (session : Session) → None ≡ misplaced_reply found
-      → TellsShown host (asks_move found) (asks_pools found)
+      → TellsShown host (shown_by found)
       → StandsIn script limits (Some host) session
       → WritesAt (left_in (taken.Own found)) false script limits (Some host) session
   written-shown script limits host found (Single state) is tells stands = absurd stands

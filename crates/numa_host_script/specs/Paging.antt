@@ -50,6 +50,8 @@ use Rattle.numa_run.specs.PageLines.{change_of, lack_reply, page_reply, shift_to
 use Rattle.numa_run.specs.PageLines.{touch_reply}
 use Rattle.numa_run.specs.PoolTexts.{pools_line}
 use Rattle.numa_run.specs.Replies.{Answer, Replied, Shown, reply_in}
+use Rattle.numa_host_script.specs.declared.lines.Shows.{Shows}
+use Rattle.numa_host_script.specs.declared.lines.Shows.TheVariants as shows
 use Rattle.numa_host_script.specs.Hosts.{Hosting, Outcome, cause_by, process_outcome}
 use Rattle.numa_host_script.specs.Hosts.{command_unless, with_lying, with_reply, with_text}
 
@@ -254,10 +256,10 @@ abbrev pub moved_text : Hosting → List ℕ
 moved_text at = last_line (length at.history) (OfPages (sum_in at.lying))
 
 -- what is shown of the pages of a host: that, what its pools have, or how many more its nodes take
-abbrev pub shown_text : Bool → Bool → Hosting → List ℕ
-shown_text true pools at = moved_text at
-shown_text false true at = pools_line at.lying.huge.pools
-shown_text false false at = rooms_line (rooms_of at.lying.room)
+abbrev pub shown_text : Shows → Hosting → List ℕ
+shown_text shows.Move at = moved_text at
+shown_text shows.Pools at = pools_line at.lying.huge.pools
+shown_text shows.Rooms at = rooms_line (rooms_of at.lying.room)
 
 -- a line about pages that no process is told
 abbrev pub own_page_outcome : Hosting → PageLine → Outcome

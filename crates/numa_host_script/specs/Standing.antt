@@ -1,6 +1,6 @@
 -- Which states a running script of a host stands for, and what it does with lines.
 use Rattle.std.specs.Prelude.{◌≡◌, ℕ, Bool, Box, true, false, Option, Some, None, IsSome, Result}
-use Rattle.std.specs.Prelude.{[], ◌∷◌, Ok, Err, IsSomeAnd, length}
+use Rattle.std.specs.Prelude.{[], ◌∷◌, Ok, Err, IsSomeAnd, is_some, length, not}
 use Rattle.std.specs.Global.{Global}
 use Rattle.numa_space.specs.Limited.{Bounds}
 use Rattle.numa_host.specs.Standing.{HostState, HostStandsFor, IsHostApplied}
@@ -9,7 +9,7 @@ use Rattle.numa_host_huge.specs.Kept.{HugeKept}
 use Rattle.numa_host_huge.specs.Sharing.{Sharing, begun_in, given_back as huge_back, memory_in}
 use Rattle.numa_host_huge.specs.Standing.{HugeLies}
 use Rattle.numa_requests.specs.declared.command.Command.{Command}
-use Rattle.numa_host_pages.specs.Homes.{HostLying, lent, memory_of, pages_in, taken_along}
+use Rattle.numa_host_pages.specs.Homes.{HostLying, memory_of, pages_in, pages_lent, taken_along}
 use Rattle.numa_host_pages.specs.Homes.{with_huge, with_pages}
 use Rattle.numa_host_pages.specs.Standing.{AreOf, HostLies}
 use Rattle.numa_host_pages.specs.declared.pages.HostPages.{HostPages}
@@ -196,6 +196,12 @@ abbrev pub ChangesPages : HostPages → Option Reply → HostPages
 ChangesPages old told new outcome = (at : HostLying) → HostLies old at
     → (lacked : Lack) × ((outcome lacked at).0 ≡ told) × HostLies new (outcome lacked at).1
 
+-- the pages of a process were taken out, or are the first that it has
+abbrev pub IsOut : HostPages → PageState → Bool → ℕ → HostLying → Type 0
+IsOut pages state first process at = (first ≡ not (is_some (pages_in process at.homes)))
+    × LiesAs state (pages_lent process at)
+    × HostLies pages (record at { homes = with_pages process None at.homes })
+
 -- nothing is stated any more of a span of a process that has such pages, where something was
 abbrev pub ForgetsIn : Option Lying → (ℕ → Spot) → ℕ → ℕ
     → Result (Option Laid) PlacedRefusal → Type 0
@@ -279,15 +285,6 @@ IsSentTo answer new at process said words = (lack : HostLack)
     at process said words).answer)
     × RunsAs new (hosting_with at (sent_unless lack.lacked
     (own_cause at process (command_of said)) at process said words))
-
--- the same of all that runs, once the pages of the process were lent
-abbrev pub SendsLent : HostState → HostPages → PageState → Reply → RunningHost → ℕ → Rebinding
-    → MoveWords → Type 0
-SendsLent host pages state answer new process said words = (at : Hosting) (lying : Lying)
-    → HostRuns host at → AreOf at.lying at.history → pages_in process at.lying.homes ≡ Some lying
-    → HostLies pages (record at.lying { homes = with_pages process None at.lying.homes })
-    → LiesAs state (lent at.lying.room at.lying.follows lying) → takes_more at process ≡ true
-    → IsSentTo answer new at process said words
 
 -- a command was carried out, and answered so
 abbrev pub IsReplyTo : Result (Unit {0}) HostRefusal → HostState → Reply → Type 0

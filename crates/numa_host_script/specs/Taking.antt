@@ -1,5 +1,5 @@
 -- A line that is taken, and then answered or judged.
-use Rattle.std.specs.Prelude.{◌≡◌, ◌↔◌, ℕ, Bool, false, true, List, Option, Some, None, Ok}
+use Rattle.std.specs.Prelude.{◌≡◌, ◌↔◌, ℕ, Bool, List, Option, Some, None, Ok}
 use Rattle.std.specs.Prelude.{IsSomeAnd, IsTrue}
 use Rattle.numa_lines.specs.Written.{Said}
 use Rattle.numa_lines.specs.declared.watched.Watched.{Watched}
@@ -17,6 +17,8 @@ use Rattle.numa_run.specs.PoolTexts.{pools_line}
 use Rattle.numa_run.specs.Scripts.{arrived_answer}
 use Rattle.numa_run.specs.declared.running.Taken.{Taken}
 use Rattle.numa_run.specs.declared.running.Taken.TheVariants as own
+use Rattle.numa_host_script.specs.declared.lines.Shows.{Shows}
+use Rattle.numa_host_script.specs.declared.lines.Shows.TheVariants as shows
 use Rattle.numa_host_script.specs.Judged.{Starves, session_fault, session_refused}
 use Rattle.numa_host_script.specs.Sessions.{Hosted, Hosting, HostLack, Session, Single}
 use Rattle.numa_host_script.specs.Sessions.{session_after, session_answer, session_served}
@@ -105,14 +107,11 @@ misplaced_reply own.Rooms = None
 misplaced_reply own.Arrived = Some reply.BadState
 misplaced_reply own.Pools = None
 
--- of these three it is the last move, or the pools
-abbrev pub asks_move : Taken → Bool
-asks_move own.Moved = true
-asks_move _ = false
-
-abbrev pub asks_pools : Taken → Bool
-asks_pools own.Pools = true
-asks_pools _ = false
+-- of these three it is the last move, the pools, or else the rooms
+abbrev pub shown_by : Taken → Shows
+shown_by own.Moved = shows.Move
+shown_by own.Pools = shows.Pools
+shown_by _ = shows.Rooms
 
 -- ---- what a script does with a line
 

@@ -11,7 +11,8 @@ ghost use Rattle.numa_host_script.specs.Pooling.{huge_outcome, own_huge_outcome,
 ghost use Rattle.numa_host_script.specs.Standing.{Changes, ComesTo, Replies, RunsAs};
 
 use crate::binding::bind;
-use crate::paging::{change_in, obeyed};
+use crate::both::change_in;
+use crate::paging::obeyed;
 use crate::pooling::{huge_in, own_huge};
 use crate::running::RunningHost;
 use crate::taking::{HostTaken, obey_host};

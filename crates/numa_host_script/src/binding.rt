@@ -1,14 +1,14 @@
 //! `mbind` of a process of a host with words behind its policy.
 ghost use Rattle.std.specs.Prelude.{◌≡◌, [], List, None, is_some, true};
-ghost use Rattle.numa_host_pages.specs.Homes.{HostLying, memory_of, pages_in, pages_lent};
+ghost use Rattle.numa_host_pages.specs.Homes.{HostLying, memory_of, pages_lent};
 ghost use Rattle.numa_host_huge.specs.Kept.{place_in};
 ghost use Rattle.numa_host_huge.specs.Standing.{CanBe};
 ghost use Rattle.numa_host_pages.specs.Standing.{HostLies};
 ghost use Rattle.numa_host_script.specs.Hosts.{Hosting};
 ghost use Rattle.numa_host_script.specs.Paging.{bound_outcome, judged_by, moved_by, own_cause};
 ghost use Rattle.numa_host_script.specs.Paging.{sent_unless, takes_more};
-ghost use Rattle.numa_host_script.specs.Standing.{IsSentTo, Replies, RepliesThere, RunsAs};
-ghost use Rattle.numa_host_script.specs.Standing.{SendsFound, SendsIn, SendsLent, SettlesIn};
+ghost use Rattle.numa_host_script.specs.Standing.{Replies, RepliesThere, RunsAs};
+ghost use Rattle.numa_host_script.specs.Standing.{SendsFound, SendsIn, SettlesIn};
 ghost use Rattle.numa_page_state.specs.Lying.{process_in};
 ghost use Rattle.numa_page_state.specs.Sending.{command_of, rebinding_in};
 ghost use Rattle.numa_page_state.specs.Strict.{has_astray, strict_binding_in};
@@ -16,6 +16,7 @@ ghost use Rattle.numa_requests.specs.declared.command.Command.{Command};
 ghost use Rattle.numa_run.specs.Obeying.{any_astray, bound_command};
 ghost use Rattle.numa_space.specs.Standing.{StandsFor};
 
+use crate::lending::{give_back, lend};
 use crate::paging::{obey_in, pages_reply};
 use crate::running::{RunningHost, space_of};
 use numa_host::Host;
@@ -217,76 +218,8 @@ fn send_with(
     })
 }
 
-/// The same of a process that has pages, which are given back.
-fn send_lent(
-    running: &mut RunningHost,
-    alloc: Global,
-    process: u32,
-    said: &Rebinding,
-    words: &MoveWords,
-    state: Box<PageState>,
-) -> Reply
-    ensures { SendsLent running.old.host running.old.pages state.value result running.new process
-        said.now words.now }
-{
-    let mut state = state;
-    let told = send_with(
-        &mut running.host,
-        &mut running.pages.huge,
-        alloc,
-        process,
-        said,
-        words,
-        &mut state,
-    );
-    running.pages.give_back(process, state);
-    match told {
-        Ok(reply) => {
-            running.pages.take_along(process);
-            reply
-        }
-        Err(reply) => reply,
-    }
-}
-
-/// The same of a process that has none yet, and then has some only if the policy was set.
-fn send_first(
-    running: &mut RunningHost,
-    alloc: Global,
-    process: u32,
-    said: &Rebinding,
-    words: &MoveWords,
-) -> Reply
-    ensures { (at : Hosting) → RunsAs running.old at → pages_in process at.lying.homes ≡ None
-        → takes_more at process ≡ true
-        → IsSentTo result running.new at process said.now words.now }
-{
-    let Ok(mut state) = running.pages.begin(alloc) else {
-        return pages_reply(PlacedRefusal::NoMemory);
-    };
-    let told = send_with(
-        &mut running.host,
-        &mut running.pages.huge,
-        alloc,
-        process,
-        said,
-        words,
-        &mut state,
-    );
-    match told {
-        Ok(reply) => {
-            running.pages.give_back(process, state);
-            running.pages.take_along(process);
-            reply
-        }
-        Err(reply) => {
-            drop(state);
-            reply
-        }
-    }
-}
-
-/// Sets a policy of a process, to which its pages go.
+/// Sets a policy of a process, to which its pages go. The first pages of a process are kept only if
+/// the policy was set.
 fn send(
     running: &mut RunningHost,
     alloc: Global,
@@ -297,9 +230,25 @@ fn send(
     ensures { RepliesThere running.old result running.new process (λ lack at. sent_unless
         lack.lacked (own_cause at process (command_of said.now)) at process said.now words.now) }
 {
-    match running.pages.lend(process) {
-        Some(state) => send_lent(running, alloc, process, said, words, state),
-        None => send_first(running, alloc, process, said, words),
+    let Ok(mut lent) = lend(&mut running.pages, alloc, process) else {
+        return pages_reply(PlacedRefusal::NoMemory);
+    };
+    let told = send_with(
+        &mut running.host,
+        &mut running.pages.huge,
+        alloc,
+        process,
+        said,
+        words,
+        &mut lent.state,
+    );
+    give_back(&mut running.pages, process, lent, told.is_err());
+    match told {
+        Ok(reply) => {
+            running.pages.take_along(process);
+            reply
+        }
+        Err(reply) => reply,
     }
 }
 

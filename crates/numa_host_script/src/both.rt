@@ -1,21 +1,22 @@
-//! Lines about pages of processes of a host that have pages of 2 MiB.
+//! Lines that change where the pages of a process of a host lie, of which some may have 2 MiB.
 ghost use Rattle.std.specs.Prelude.{◌≡◌, ◌≢◌, ℕ, [], Err, None, Some, false, is_some, true};
 ghost use Rattle.numa_host.specs.Processes.{is_there, members_of};
-ghost use Rattle.numa_host_pages.specs.Homes.{HostLying, lent, pages_in, with_pages};
+ghost use Rattle.numa_host_pages.specs.Homes.{HostLying, lent};
 ghost use Rattle.numa_host_pages.specs.Standing.{HostLies};
-ghost use Rattle.numa_host_script.specs.Paging.{page_where, told_by};
-ghost use Rattle.numa_run.specs.PageLines.{shift_told};
+ghost use Rattle.numa_host_script.specs.Paging.{along_if, is_move, page_where, pages_changed};
+ghost use Rattle.numa_host_script.specs.Paging.{small_where, tells_move, told_by};
+ghost use Rattle.numa_run.specs.PageLines.{lack_reply, shift_told};
 ghost use Rattle.numa_run.specs.Replies.{Replied};
-ghost use Rattle.numa_host_script.specs.Standing.{Changes, PopulatesBoth, PopulatesIn};
+ghost use Rattle.numa_host_script.specs.Standing.{Changes, ChangesPages, PopulatesBoth};
+ghost use Rattle.numa_host_script.specs.Standing.{PopulatesIn};
 ghost use Rattle.numa_page_state.specs.Huge.{huge_count, huge_first, huge_page};
-ghost use Rattle.numa_page_state.specs.Lying.{Lying, ground_in};
-ghost use Rattle.numa_page_state.specs.Standing.{LiesAs};
+ghost use Rattle.numa_page_state.specs.Lying.{ground_in};
 ghost use Rattle.numa_huge.specs.Huge.{has_huge};
 ghost use Rattle.numa_host_huge.specs.Kept.{spots_in};
 ghost use Rattle.numa_script.specs.declared.page_line.PageLine.{PageLine};
 ghost use Rattle.numa_space.specs.History.{page_count, page_of};
 
-use crate::paging::{change_small, tells_move};
+use crate::lending::{give_back, lacks_memory, lend};
 use crate::running::{RunningHost, space_of};
 use numa_host_huge::HostHuge;
 use numa_host_pages::HostPages;
@@ -23,10 +24,101 @@ use numa_maps::Resident;
 use numa_mask::NodeMask;
 use numa_page_state::PageState;
 use numa_page_state::binding::page_count;
-use numa_requests::{HostRefusal, HugeRefusal, PAGE_BYTES, PlacedRefusal};
+use numa_requests::{HostRefusal, HugeRefusal, MoveRefusal, PAGE_BYTES, PlacedRefusal};
+use numa_run::paging::{change, lack_reply};
 use numa_script::{PageLine, Reply};
 use numa_space::Space;
 use std::alloc::Global;
+
+// ---- pages of 4 KiB alone
+
+/// Whether the reply to a line is that there is no memory for it.
+fn tells_lack(line: &PageLine, told: &Option<Reply>) -> bool
+    ensures lack { result ≡ true → told.now ≡ Some (lack_reply line.now) }
+    ensures other { result ≡ false → told.now ≢ Some (lack_reply line.now) }
+{
+    match line {
+        PageLine::Move { .. } => { matches!(told, Some(Reply::MoveRefused(MoveRefusal::NoMemory))) }
+        _ => matches!(told, Some(Reply::PlacedRefused(PlacedRefusal::NoMemory))),
+    }
+}
+
+/// Changes where the pages of a process lie, by its space. What `populate` did is no reply.
+fn change_pages(
+    pages: &mut HostPages,
+    alloc: Global,
+    process: u32,
+    space: &Space,
+    line: &PageLine,
+) -> Option<Reply>
+    requires moved { line.now ≢ PageLine.Moved }
+    requires rooms { line.now ≢ PageLine.Rooms }
+    ensures { ChangesPages pages.old result pages.new (λ lacked at.
+        pages_changed lacked (ground_in space.now []) process line.now at) }
+{
+    let Ok(mut lent) = lend(pages, alloc, process) else {
+        return Some(lack_reply(line));
+    };
+    let resident = Resident::new(alloc);
+    let told = change(&mut lent.state, space, &resident, line);
+    give_back(pages, process, lent, tells_lack(line, &told));
+    told
+}
+
+/// Whether a reply tells what moved.
+fn is_move(reply: &Reply) -> bool
+    ensures { result ≡ is_move reply.now }
+{
+    match reply {
+        Reply::Moved { .. } => true,
+        Reply::MovedTo(_) => true,
+        _ => false,
+    }
+}
+
+/// Whether a line is answered so.
+fn tells_move(told: &Option<Reply>) -> bool
+    ensures { result ≡ tells_move told.now }
+{
+    match told {
+        None => false,
+        Some(reply) => is_move(reply),
+    }
+}
+
+/// Once a line was answered so, the host's last move is that of the process, if it was one.
+fn take_along(pages: &mut HostPages, process: u32, told: &Option<Reply>)
+    ensures { (at : HostLying) → HostLies pages.old at
+        → HostLies pages.new (along_if (tells_move told.now) process at) }
+{
+    if !tells_move(told) {
+        return;
+    }
+    pages.take_along(process);
+}
+
+/// Carries out a line that changes where the pages of 4 KiB of a process lie.
+fn change_small(
+    running: &mut RunningHost,
+    alloc: Global,
+    process: u32,
+    line: &PageLine,
+) -> Option<Reply>
+    requires moved { line.now ≢ PageLine.Moved }
+    requires rooms { line.now ≢ PageLine.Rooms }
+    ensures host { running.new.host ≡ running.old.host }
+    ensures runs { Changes running.old result running.new process (λ lacked at. small_where
+        (is_there (members_of at.history) process) lacked at process line.now) }
+{
+    let Some(space) = space_of(&running.host, process) else {
+        return Some(Reply::HostRefused(HostRefusal::NoSuchProcess));
+    };
+    let told = change_pages(&mut running.pages, alloc, process, space, line);
+    take_along(&mut running.pages, process, &told);
+    told
+}
+
+// ---- pages of both sizes
 
 /// What `populate` says: start and length are in bytes.
 #[derive(Clone, Copy)]
@@ -222,65 +314,6 @@ fn touch_both(
     }
 }
 
-/// Touches pages of both sizes of a process whose pages of 4 KiB were lent, and are given back.
-fn populate_lent(
-    pages: &mut HostPages,
-    alloc: Global,
-    process: u32,
-    space: &Space,
-    said: &Populating,
-    state: Box<PageState>,
-) -> Result<(), PlacedRefusal>
-    requires { has_huge (spots_in process pages.old.huge.sharers)
-        (huge_first (page_of said.now.start))
-        (huge_count (page_of said.now.start) (page_count said.now.length)) ≡ true }
-    ensures { (at : HostLying) (lying : Lying) → pages_in process at.homes ≡ Some lying
-        → HostLies pages.old (record at { homes = with_pages process None at.homes })
-        → LiesAs state.value (lent at.room at.follows lying)
-        → PopulatesIn at process (ground_in space.now []) said.now.start said.now.length
-        said.now.task said.now.cpu result pages.new }
-{
-    let mut state = state;
-    let done = touch_both(&mut pages.huge, alloc, process, space, said, &mut state);
-    pages.give_back(process, state);
-    done
-}
-
-/// Whether memory lacked.
-fn lacks_memory(done: &Result<(), PlacedRefusal>) -> bool
-    ensures lack { result ≡ true → done.now ≡ Err PlacedRefusal.NoMemory }
-    ensures other { result ≡ false → done.now ≢ Err PlacedRefusal.NoMemory }
-{
-    matches!(done, Err(PlacedRefusal::NoMemory))
-}
-
-/// The same of a process that has no pages of 4 KiB yet, and then has some unless memory lacks.
-fn populate_first(
-    pages: &mut HostPages,
-    alloc: Global,
-    process: u32,
-    space: &Space,
-    said: &Populating,
-) -> Result<(), PlacedRefusal>
-    requires { has_huge (spots_in process pages.old.huge.sharers)
-        (huge_first (page_of said.now.start))
-        (huge_count (page_of said.now.start) (page_count said.now.length)) ≡ true }
-    ensures { (at : HostLying) → pages_in process at.homes ≡ None → HostLies pages.old at
-        → PopulatesIn at process (ground_in space.now []) said.now.start said.now.length
-        said.now.task said.now.cpu result pages.new }
-{
-    let Ok(mut state) = pages.begin(alloc) else {
-        return Err(PlacedRefusal::NoMemory);
-    };
-    let done = touch_both(&mut pages.huge, alloc, process, space, said, &mut state);
-    if lacks_memory(&done) {
-        drop(state);
-        return done;
-    }
-    pages.give_back(process, state);
-    done
-}
-
 /// Touches pages of both sizes of a process.
 fn populate_pages(
     pages: &mut HostPages,
@@ -296,7 +329,9 @@ fn populate_pages(
         (ground_in space.now []) said.now.start said.now.length said.now.task said.now.cpu result
         pages.new }
 {
-    let lent = pages.lend(process);
+    let Ok(mut lent) = lend(pages, alloc, process) else {
+        return Err(PlacedRefusal::NoMemory);
+    };
     let count = page_count(said.length);
     if !pages
         .huge
@@ -306,10 +341,16 @@ fn populate_pages(
         drop(lent);
         return Err(PlacedRefusal::NoMemory);
     }
-    match lent {
-        Some(state) => populate_lent(pages, alloc, process, space, said, state),
-        None => populate_first(pages, alloc, process, space, said),
-    }
+    let done = touch_both(
+        &mut pages.huge,
+        alloc,
+        process,
+        space,
+        said,
+        &mut lent.state,
+    );
+    give_back(pages, process, lent, lacks_memory(&done));
+    done
 }
 
 /// Touches the pages of a span of a process, of which some have 2 MiB.
@@ -370,7 +411,7 @@ fn populate_in(
 }
 
 /// Carries out a line that changes where the pages of a process lie, which has some of 2 MiB.
-pub(crate) fn change_both(
+fn change_both(
     running: &mut RunningHost,
     alloc: Global,
     process: u32,
@@ -406,4 +447,23 @@ pub(crate) fn change_both(
         }
         _ => change_small(running, alloc, process, line),
     }
+}
+
+/// Carries out a line that changes where the pages of a process lie.
+pub(crate) fn change_in(
+    running: &mut RunningHost,
+    alloc: Global,
+    process: u32,
+    line: &PageLine,
+) -> Option<Reply>
+    requires moved { line.now ≢ PageLine.Moved }
+    requires rooms { line.now ≢ PageLine.Rooms }
+    ensures host { running.new.host ≡ running.old.host }
+    ensures runs { Changes running.old result running.new process (λ lacked at. page_where
+        (is_there (members_of at.history) process) lacked at process line.now) }
+{
+    if running.pages.huge.is_sharer(process) {
+        return change_both(running, alloc, process, line);
+    }
+    change_small(running, alloc, process, line)
 }

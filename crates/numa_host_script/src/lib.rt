@@ -12,6 +12,7 @@ pub mod asking;
 mod binding;
 mod both;
 pub mod laws;
+mod lending;
 mod lines;
 mod paging;
 mod pooling;

@@ -1,7 +1,7 @@
 //! What kind of line a script is told, and which lines of one process have no place in a host.
 ghost use Rattle.std.specs.Prelude.{◌≡◌, IfSome, MatchOption, Some, true, false};
 ghost use Rattle.numa_host_script.specs.Sessions.{bounds_after, is_begin, is_fresh};
-ghost use Rattle.numa_host_script.specs.Taking.{asks_move, asks_pools, misplaced_reply};
+ghost use Rattle.numa_host_script.specs.Taking.{misplaced_reply, shown_by};
 ghost use Rattle.numa_run.specs.Answers.{State};
 ghost use Rattle.numa_run.specs.Scripts.{ScriptStandsFor};
 ghost use Rattle.numa_script.specs.Lines.{alone};
@@ -94,24 +94,22 @@ pub(crate) fn misplaced(taken: Taken) -> Option<Reply>
     }
 }
 
-/// Whether a line asks what the last move did.
-#[inline(always)]
-pub(crate) fn asks_move(taken: &Taken) -> bool
-    ensures { result ≡ asks_move taken.now }
-{
-    match taken {
-        Taken::Moved => true,
-        _ => false,
-    }
+/// What a host shows of its pages: what its last move did, its pools, or its rooms.
+#[derive(Clone, Copy)]
+pub(crate) enum Shows {
+    Move,
+    Pools,
+    Rooms,
 }
 
-/// Whether a line asks what the pools have.
+/// Which of these a line of one process asks for, where it has no reply.
 #[inline(always)]
-pub(crate) fn asks_pools(taken: &Taken) -> bool
-    ensures { result ≡ asks_pools taken.now }
+pub(crate) fn shown_by(taken: &Taken) -> Shows
+    ensures { result ≡ shown_by taken.now }
 {
     match taken {
-        Taken::Pools => true,
-        _ => false,
+        Taken::Moved => Shows::Move,
+        Taken::Pools => Shows::Pools,
+        _ => Shows::Rooms,
     }
 }

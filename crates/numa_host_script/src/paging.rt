@@ -1,205 +1,38 @@
 //! Lines about pages in a host.
-ghost use Rattle.std.specs.Prelude.{◌≡◌, ◌≢◌, ℕ, [], Bool, IfErr, IfSome, IsSome, None, Ok, Some};
-ghost use Rattle.std.specs.Prelude.{false, true};
-ghost use Rattle.numa_host.specs.Processes.{is_there, members_of};
-ghost use Rattle.numa_host_pages.specs.Homes.{HostLying, given_back, lent, pages_in, pages_lent};
-ghost use Rattle.numa_host_pages.specs.Homes.{with_pages};
+ghost use Rattle.std.specs.Prelude.{◌≡◌, ℕ, IfErr, IfSome, IsSome, None, Ok, Some, true};
+ghost use Rattle.numa_host_pages.specs.Homes.{HostLying, given_back, pages_in, pages_lent};
 ghost use Rattle.numa_host_pages.specs.Standing.{HostLies};
 ghost use Rattle.numa_host_script.specs.Acting.{AppliesTo, IsLackOf};
-ghost use Rattle.numa_host_script.specs.Paging.{along_if, given_outcome, is_move, obeyed};
+ghost use Rattle.numa_host_script.specs.Paging.{given_outcome, obeyed};
 ghost use Rattle.numa_host_huge.specs.Kept.{spots_in};
 ghost use Rattle.numa_host_huge.specs.Standing.{CanBe};
 ghost use Rattle.numa_huge.specs.Huge.{has_huge, places_of};
 ghost use Rattle.numa_page_state.specs.Huge.{huge_count, huge_first};
 ghost use Rattle.numa_space.specs.History.{page_count, page_of};
-ghost use Rattle.numa_host_script.specs.Paging.{page_where, pages_changed, pages_reply};
-ghost use Rattle.numa_host_script.specs.Paging.{small_unmap, small_where, tells_move};
-ghost use Rattle.numa_host_script.specs.Paging.{unmap_outcome};
-ghost use Rattle.numa_host_script.specs.Standing.{Answers, Changes, ChangesPages, ForgetsIn};
-ghost use Rattle.numa_host_script.specs.Standing.{Replies, Takes, UnmapsBoth, told};
-ghost use Rattle.numa_page_state.specs.Lying.{Lying, ground_in, with_spots};
-ghost use Rattle.numa_page_state.specs.Outcomes.{Lack};
-ghost use Rattle.numa_page_state.specs.Standing.{LiesAs};
+ghost use Rattle.numa_host_script.specs.Paging.{pages_reply, small_unmap, unmap_outcome};
+ghost use Rattle.numa_host_script.specs.Standing.{Answers, ForgetsIn, Replies, Takes};
+ghost use Rattle.numa_host_script.specs.Standing.{UnmapsBoth, told};
+ghost use Rattle.numa_page_state.specs.Lying.{with_spots};
 ghost use Rattle.numa_placed.specs.Spots.{spot_at};
 ghost use Rattle.numa_placed.specs.declared.spot.Spot.{Spot};
 ghost use Rattle.numa_requests.specs.declared.command.Command.{Command};
 ghost use Rattle.numa_requests.specs.declared.host_command.HostCommand.{HostCommand};
-ghost use Rattle.numa_run.specs.PageLines.{lack_reply};
 ghost use Rattle.numa_script.specs.Lines.{alone};
 
-use crate::both::change_both;
-use crate::running::{RunningHost, space_of};
+use crate::both::change_in;
+use crate::running::RunningHost;
 use crate::taking::HostTaken;
 use numa_host::Host;
 use numa_host_pages::HostPages;
 use numa_huge::HugePlaces;
-use numa_maps::Resident;
 use numa_mask::ListFault;
 use numa_page_state::PageState;
 use numa_page_state::binding::page_count;
 use numa_placed::Placed;
-use numa_requests::{Command, HostCommand, HostRefusal, MoveRefusal, PAGE_BYTES, PlacedRefusal};
-use numa_run::paging::{change, lack_reply, page_reply};
+use numa_requests::{Command, HostCommand, HostRefusal, PAGE_BYTES, PlacedRefusal};
+use numa_run::paging::page_reply;
 use numa_script::{Line, PageLine, Reply, WordError};
-use numa_space::Space;
 use std::alloc::Global;
-
-/// Whether the reply to a line is that there is no memory for it.
-fn tells_lack(line: &PageLine, told: &Option<Reply>) -> bool
-    ensures lack { result ≡ true → told.now ≡ Some (lack_reply line.now) }
-    ensures other { result ≡ false → told.now ≢ Some (lack_reply line.now) }
-{
-    match line {
-        PageLine::Move { .. } => { matches!(told, Some(Reply::MoveRefused(MoveRefusal::NoMemory))) }
-        _ => matches!(told, Some(Reply::PlacedRefused(PlacedRefusal::NoMemory))),
-    }
-}
-
-/// Changes where the pages of a process lie, which were lent to it, and are given back.
-fn change_lent(
-    pages: &mut HostPages,
-    alloc: Global,
-    process: u32,
-    space: &Space,
-    line: &PageLine,
-    state: Box<PageState>,
-) -> Option<Reply>
-    requires moved { line.now ≢ PageLine.Moved }
-    requires rooms { line.now ≢ PageLine.Rooms }
-    ensures { (at : HostLying) (lying : Lying) → pages_in process at.homes ≡ Some lying
-        → HostLies pages.old (record at { homes = with_pages process None at.homes })
-        → LiesAs state.value (lent at.room at.follows lying)
-        → (lacked : Lack)
-        × ((pages_changed lacked (ground_in space.now []) process line.now at).0 ≡ result)
-        × HostLies pages.new (pages_changed lacked (ground_in space.now []) process line.now
-        at).1 }
-{
-    let mut state = state;
-    let resident = Resident::new(alloc);
-    let told = change(&mut state, space, &resident, line);
-    pages.give_back(process, state);
-    told
-}
-
-/// The same of a process that has none yet, and then has some unless memory lacks.
-fn change_first(
-    pages: &mut HostPages,
-    alloc: Global,
-    process: u32,
-    space: &Space,
-    line: &PageLine,
-) -> Option<Reply>
-    requires moved { line.now ≢ PageLine.Moved }
-    requires rooms { line.now ≢ PageLine.Rooms }
-    ensures { (at : HostLying) → pages_in process at.homes ≡ None → HostLies pages.old at
-        → (lacked : Lack)
-        × ((pages_changed lacked (ground_in space.now []) process line.now at).0 ≡ result)
-        × HostLies pages.new (pages_changed lacked (ground_in space.now []) process line.now
-        at).1 }
-{
-    let Ok(mut state) = pages.begin(alloc) else {
-        return Some(lack_reply(line));
-    };
-    let resident = Resident::new(alloc);
-    let told = change(&mut state, space, &resident, line);
-    if tells_lack(line, &told) {
-        drop(state);
-        return told;
-    }
-    pages.give_back(process, state);
-    told
-}
-
-/// Changes where the pages of a process lie, by its space. What `populate` did is no reply.
-fn change_pages(
-    pages: &mut HostPages,
-    alloc: Global,
-    process: u32,
-    space: &Space,
-    line: &PageLine,
-) -> Option<Reply>
-    requires moved { line.now ≢ PageLine.Moved }
-    requires rooms { line.now ≢ PageLine.Rooms }
-    ensures { ChangesPages pages.old result pages.new (λ lacked at.
-        pages_changed lacked (ground_in space.now []) process line.now at) }
-{
-    match pages.lend(process) {
-        Some(state) => change_lent(pages, alloc, process, space, line, state),
-        None => change_first(pages, alloc, process, space, line),
-    }
-}
-
-/// Whether a reply tells what moved.
-fn is_move(reply: &Reply) -> bool
-    ensures { result ≡ is_move reply.now }
-{
-    match reply {
-        Reply::Moved { .. } => true,
-        Reply::MovedTo(_) => true,
-        _ => false,
-    }
-}
-
-/// Whether a line is answered so.
-pub(crate) fn tells_move(told: &Option<Reply>) -> bool
-    ensures { result ≡ tells_move told.now }
-{
-    match told {
-        None => false,
-        Some(reply) => is_move(reply),
-    }
-}
-
-/// Once a line was answered so, the host's last move is that of the process, if it was one.
-fn take_along(pages: &mut HostPages, process: u32, told: &Option<Reply>)
-    ensures { (at : HostLying) → HostLies pages.old at
-        → HostLies pages.new (along_if (tells_move told.now) process at) }
-{
-    if !tells_move(told) {
-        return;
-    }
-    pages.take_along(process);
-}
-
-/// Carries out a line that changes where the pages of 4 KiB of a process lie.
-pub(crate) fn change_small(
-    running: &mut RunningHost,
-    alloc: Global,
-    process: u32,
-    line: &PageLine,
-) -> Option<Reply>
-    requires moved { line.now ≢ PageLine.Moved }
-    requires rooms { line.now ≢ PageLine.Rooms }
-    ensures host { running.new.host ≡ running.old.host }
-    ensures runs { Changes running.old result running.new process (λ lacked at. small_where
-        (is_there (members_of at.history) process) lacked at process line.now) }
-{
-    let Some(space) = space_of(&running.host, process) else {
-        return Some(Reply::HostRefused(HostRefusal::NoSuchProcess));
-    };
-    let told = change_pages(&mut running.pages, alloc, process, space, line);
-    take_along(&mut running.pages, process, &told);
-    told
-}
-
-/// Carries out a line that changes where the pages of a process lie.
-pub(crate) fn change_in(
-    running: &mut RunningHost,
-    alloc: Global,
-    process: u32,
-    line: &PageLine,
-) -> Option<Reply>
-    requires moved { line.now ≢ PageLine.Moved }
-    requires rooms { line.now ≢ PageLine.Rooms }
-    ensures host { running.new.host ≡ running.old.host }
-    ensures runs { Changes running.old result running.new process (λ lacked at. page_where
-        (is_there (members_of at.history) process) lacked at process line.now) }
-{
-    if running.pages.huge.is_sharer(process) {
-        return change_both(running, alloc, process, line);
-    }
-    change_small(running, alloc, process, line)
-}
 
 /// Carries out a line about pages that a process is told. What `moved` and a `populate` that isn't
 /// refused tell is still to be written.

@@ -1,8 +1,8 @@
 //! Lines about pools and pages of 2 MiB in a host.
-ghost use Rattle.std.specs.Prelude.{◌≡◌, ◌≢◌, ◌≤◌, [], Err, None, Some, false, true};
+ghost use Rattle.std.specs.Prelude.{◌≡◌, ◌≤◌, [], Err, Some, true};
 ghost use Rattle.numa_huge.specs.Huge.{places_of};
 ghost use Rattle.numa_host_huge.specs.Standing.{CanBegin};
-ghost use Rattle.numa_host_pages.specs.Homes.{HostLying, lent, pages_in, with_pages};
+ghost use Rattle.numa_host_pages.specs.Homes.{HostLying, lent};
 ghost use Rattle.numa_host_pages.specs.Standing.{HostLies};
 ghost use Rattle.numa_host_script.specs.Pooling.{fitting_outcome, huge_outcome, lacking_outcome};
 ghost use Rattle.numa_host_script.specs.Pooling.{map_outcome, own_huge_outcome};
@@ -10,13 +10,13 @@ ghost use Rattle.numa_host_script.specs.Pooling.{resize_node_outcome, resize_out
 ghost use Rattle.numa_host_script.specs.Pooling.{small_faulted};
 ghost use Rattle.numa_host_script.specs.Standing.{ComesTo, FaultsSo, MapsMade, Replies};
 ghost use Rattle.numa_host_script.specs.Standing.{RepliesThere};
-ghost use Rattle.numa_page_state.specs.Lying.{Lying, ground_in};
+ghost use Rattle.numa_page_state.specs.Lying.{ground_in};
 ghost use Rattle.numa_page_state.specs.Outcomes.{Lack};
-ghost use Rattle.numa_page_state.specs.Standing.{LiesAs};
 ghost use Rattle.numa_pools.specs.Pools.{unreserved};
 ghost use Rattle.numa_script.specs.declared.huge_line.HugeLine.{HugeLine};
 
 use crate::binding::takes_more;
+use crate::lending::{give_back, lacks_memory, lend};
 use crate::paging::{obey_in, pages_reply};
 use crate::running::{RunningHost, space_of};
 use crate::taking::HostTaken;
@@ -25,10 +25,10 @@ use numa_huge::HugePages;
 use numa_machine::PageSize;
 use numa_maps::Resident;
 use numa_mask::{NodeId, NodeMask};
+use numa_page_state::is_late_in;
 use numa_page_state::pooling::{
     lacks_if, mapped_pages, mapping_nodes, place_cause, pool_refusal, resizing_nodes,
 };
-use numa_page_state::{PageState, is_late_in};
 use numa_requests::{Command, HostCommand, HostRefusal, HugeRefusal, PAGE_BYTES, PlacedRefusal};
 use numa_run::huge::{MOST_PAGES, fault_reply};
 use numa_script::{HugeLine, Reply};
@@ -210,61 +210,6 @@ struct Touch {
     cpu: u32,
 }
 
-/// Touches a page of 4 KiB of a process, whose pages were lent, and are given back.
-fn fault_lent(
-    pages: &mut HostPages,
-    alloc: Global,
-    process: u32,
-    space: &Space,
-    touch: &Touch,
-    state: Box<PageState>,
-) -> Reply
-    ensures { (at : HostLying) (lying : Lying) → pages_in process at.homes ≡ Some lying
-        → HostLies pages.old (record at { homes = with_pages process None at.homes })
-        → LiesAs state.value (lent at.room at.follows lying)
-        → (lacked : Lack) × FaultsSo (small_faulted lacked (ground_in space.now []) process
-        touch.now.task touch.now.address touch.now.cpu at) result pages.new }
-{
-    let mut state = state;
-    let resident = Resident::new(alloc);
-    let done = state.fault(space, &resident, touch.task, touch.address, touch.cpu);
-    pages.give_back(process, state);
-    fault_reply(HugeRefusal::Exhausted, done)
-}
-
-/// Whether memory lacked for a touch.
-fn lacks_memory(done: &Result<Option<u8>, PlacedRefusal>) -> bool
-    ensures lack { result ≡ true → done.now ≡ Err PlacedRefusal.NoMemory }
-    ensures other { result ≡ false → done.now ≢ Err PlacedRefusal.NoMemory }
-{
-    matches!(done, Err(PlacedRefusal::NoMemory))
-}
-
-/// The same of a process that has no pages yet, and then has some unless memory lacks.
-fn fault_first(
-    pages: &mut HostPages,
-    alloc: Global,
-    process: u32,
-    space: &Space,
-    touch: &Touch,
-) -> Reply
-    ensures { (at : HostLying) → pages_in process at.homes ≡ None → HostLies pages.old at
-        → (lacked : Lack) × FaultsSo (small_faulted lacked (ground_in space.now []) process
-        touch.now.task touch.now.address touch.now.cpu at) result pages.new }
-{
-    let Ok(mut state) = pages.begin(alloc) else {
-        return Reply::HugeRefused(HugeRefusal::NoMemory);
-    };
-    let resident = Resident::new(alloc);
-    let done = state.fault(space, &resident, touch.task, touch.address, touch.cpu);
-    if lacks_memory(&done) {
-        drop(state);
-        return Reply::HugeRefused(HugeRefusal::NoMemory);
-    }
-    pages.give_back(process, state);
-    fault_reply(HugeRefusal::Exhausted, done)
-}
-
 /// Touches a page of 4 KiB of a process.
 fn fault_small(
     pages: &mut HostPages,
@@ -277,10 +222,15 @@ fn fault_small(
         × FaultsSo (small_faulted lacked (ground_in space.now []) process touch.now.task
         touch.now.address touch.now.cpu at) result pages.new }
 {
-    match pages.lend(process) {
-        Some(state) => fault_lent(pages, alloc, process, space, touch, state),
-        None => fault_first(pages, alloc, process, space, touch),
-    }
+    let Ok(mut lent) = lend(pages, alloc, process) else {
+        return Reply::HugeRefused(HugeRefusal::NoMemory);
+    };
+    let resident = Resident::new(alloc);
+    let done = lent
+        .state
+        .fault(space, &resident, touch.task, touch.address, touch.cpu);
+    give_back(pages, process, lent, lacks_memory(&done));
+    fault_reply(HugeRefusal::Exhausted, done)
 }
 
 /// Touches the page of an address of a process.

@@ -16,9 +16,7 @@ ghost use Rattle.numa_script.specs.declared.line.Line.{Line};
 ghost use Rattle.numa_script.specs.declared.page_line.PageLine.{PageLine};
 
 use crate::asking::{ask, list, question_cause};
-use crate::lines::{
-    asks_move, asks_pools, fresh_machine, is_begin, limits_after, misplaced, plain_question,
-};
+use crate::lines::{fresh_machine, is_begin, limits_after, misplaced, plain_question, shown_by};
 use crate::running::{RunningHost, on_heap};
 use crate::taking::{HostTaken, take};
 use crate::telling::{say_arrived_in, say_last_in, say_shown_in};
@@ -190,10 +188,9 @@ impl HostScript {
             self.new output.new }
     {
         if let Some(running) = &self.host {
-            let moves = asks_move(&taken);
-            let pools = asks_pools(&taken);
+            let shows = shown_by(&taken);
             let Some(reply) = misplaced(taken) else {
-                say_shown_in(running, moves, pools, output);
+                say_shown_in(running, shows, output);
                 return false;
             };
             say_reply(output, &reply);

@@ -16,6 +16,7 @@ ghost use Rattle.numa_page_state.specs.Standing.{ArrivedAs, LastAs};
 ghost use Rattle.numa_run.specs.ArrivedTexts.{arrival_with, rooms_line};
 ghost use Rattle.numa_run.specs.MovedTexts.{all_flows_text, both_line};
 
+use crate::lines::Shows;
 use crate::running::RunningHost;
 use numa_host_pages::HostPages;
 use numa_huge::HugePages;
@@ -94,25 +95,16 @@ fn say_moved_in<W: Write>(running: &RunningHost, output: &mut Watched<W>)
     output.say(b"\n");
 }
 
-/// Writes what is shown of the pages of a host: what its last move did, its pools, or its rooms.
-pub(crate) fn say_shown_in<W: Write>(
-    running: &RunningHost,
-    moves: bool,
-    pools: bool,
-    output: &mut Watched<W>,
-)
+/// Writes what is shown of the pages of a host.
+pub(crate) fn say_shown_in<W: Write>(running: &RunningHost, shows: Shows, output: &mut Watched<W>)
     ensures { (at : Hosting) → RunsAs running.now at → Said W.contents output.old output.new
-        (shown_text moves pools at) }
+        (shown_text shows at) }
 {
-    if moves {
-        say_moved_in(running, output);
-        return;
+    match shows {
+        Shows::Move => say_moved_in(running, output),
+        Shows::Pools => say_pools(output, running.pages.huge.pools()),
+        Shows::Rooms => say_rooms_in(running, output),
     }
-    if pools {
-        say_pools(output, running.pages.huge.pools());
-        return;
-    }
-    say_rooms_in(running, output);
 }
 
 /// Writes what the last first touches of a process did, at the version of the host.

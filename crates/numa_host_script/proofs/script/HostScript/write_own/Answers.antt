@@ -11,9 +11,9 @@ returns-in_default-misplaced g c =
     written-shown g.W.Write.contents c.args.output.now c.say_shown_in.new.output
     c.args.self.now.script c.args.self.now.limits c.in-Some.running.value c.args.taken session
     (sym c.in_default-misplaced.is ∙ c.misplaced.ensures)
-    (rw (← c.asks_move-moves.ensures, ← c.asks_pools-pools.ensures)
+    (rw (← c.shown_by-shows.ensures)
     (subst (λ (r : RunningHost). TellsShown g.W.Write.contents c.args.output.now
-    c.say_shown_in.new.output r c.asks_move-moves.result c.asks_pools-pools.result)
+    c.say_shown_in.new.output r c.shown_by-shows.result)
     c.deref.ensures c.say_shown_in.ensures)) stands)
 
 pub returns-in-Some : goal.returns-in-Some

@@ -1,5 +1,5 @@
 use Rattle.std.proofs.Common.{◌∙◌, sym}
-use Rattle.numa_host_script.proofs.paging.take_along.Goals as goal
+use Rattle.numa_host_script.proofs.both.take_along.Goals as goal
 
 pub returns-then-not-tells_move : goal.returns-then-not-tells_move
 returns-then-not-tells_move c = λ at lies.

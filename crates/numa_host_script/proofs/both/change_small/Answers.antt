@@ -1,5 +1,5 @@
 use Rattle.numa_host_script.proofs.Acted.{changed-nobody, changed-there}
-use Rattle.numa_host_script.proofs.paging.change_small.Goals as goal
+use Rattle.numa_host_script.proofs.both.change_small.Goals as goal
 
 pub returns-in_default-clause-runs : goal.returns-in_default-clause-runs
 returns-in_default-clause-runs c = changed-nobody c.args.running.now c.args.process c.args.line.now

@@ -1,6 +1,6 @@
 use Rattle.numa_host_script.proofs.Acted.{small-acts}
 use Rattle.numa_host_script.proofs.Shared.{none-there}
-use Rattle.numa_host_script.proofs.paging.change_in.Goals as goal
+use Rattle.numa_host_script.proofs.both.change_in.Goals as goal
 
 pub returns-clause-runs : goal.returns-clause-runs
 returns-clause-runs c =
