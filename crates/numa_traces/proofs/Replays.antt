@@ -1,6 +1,6 @@
 -- A replay, one access later.
 use Rattle.std.proofs.Common.{◌≡◌, ℕ, ◌<◌, Bool, not, is_some, Option, Some, None, List, [], ◌∷◌}
-use Rattle.std.proofs.Common.{Result, Ok, Err, OnOk, IfErr, refl, subst, sym, ap, ◌∙◌}
+use Rattle.std.proofs.Common.{◌++◌, Result, Ok, Err, OnOk, IfErr, IfOk, refl, subst, sym, ap, ◌∙◌}
 use Rattle.std.specs.Prelude.{unwrap_or, if◌then◌else◌}
 use Rattle.std.specs.Option.{option_map}
 use Rattle.std.proofs.lemmas.Bool.{lt-leb}
@@ -22,6 +22,15 @@ pub on-ok : {A E : Type 0} {P Q : Type 0} (result : Result A E) → (P → Q) �
     → OnOk result Q
 on-ok (Ok a) from p = from p
 on-ok (Err e) from p = tt
+
+-- what was made as it should be, and is added
+pub added-mark : {A E F : Type 0} (result : Result (Unit {0}) E) (made : Result A F) (old new : List A)
+    (wanted : A) → IfOk made (λ mark. mark ≡ wanted)
+    → OnOk result ((mark : A) × (made ≡ Ok mark) × (new ≡ old ++ (mark ∷ [])))
+    → OnOk result (new ≡ old ++ (wanted ∷ []))
+added-mark (Ok done) made old new wanted is (mark, so, more) =
+    more ∙ ap (λ m. old ++ (m ∷ [])) (rw so at is)
+added-mark (Err why) made old new wanted is added = tt
 
 pub in-any : {A E : Type 0} {P : Type 0} (result : Result A E) → P → OnOk result P
 in-any (Ok a) p = p

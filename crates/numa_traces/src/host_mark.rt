@@ -1,10 +1,8 @@
 //! Marks of a host, each of which closes a phase of its trace.
-ghost use Rattle.std.specs.Prelude.{◌≡◌, ◌∷◌, ◌++◌, [], IfErr, IfOk, MatchOption, None, OnOk};
+ghost use Rattle.std.specs.Prelude.{◌≡◌, IfOk, MatchOption, None};
 ghost use Rattle.std.specs.Prelude.{Some, map};
 ghost use Rattle.numa_traces.specs.Hosting.{counted_in, tallies_of};
-ghost use Rattle.numa_traces.specs.declared.fault.ReplayError.TheVariants as fault;
 
-use crate::fault::ReplayError;
 use crate::host::HostReplay;
 use crate::tallies::Tallies;
 use std::alloc::{AllocError, Global};
@@ -38,35 +36,6 @@ fn counted(alloc: Global, host: &HostReplay) -> Result<Vec<(u32, Tallies)>, Allo
     Ok(counted)
 }
 
-/// Adds a mark with this text behind others, where this was met.
-///
-/// # Errors
-/// `NoMemory`: out of memory.
-pub(crate) fn close(
-    alloc: Global,
-    marks: &mut Vec<HostMark>,
-    text: &[u8],
-    host: &HostReplay,
-) -> Result<(), ReplayError>
-    ensures marks { OnOk result (marks.new.items ≡ marks.old.items ++ (record {
-      text = text.now;
-      processes = map counted_in host.now.processes;
-    } ∷ [])) }
-    ensures err { IfErr result (λ why. why ≡ fault.NoMemory) }
-{
-    let Ok(processes) = counted(alloc, host) else {
-        return Err(ReplayError::NoMemory);
-    };
-    let Ok(text) = Vec::from_slice(alloc, text) else {
-        drop(processes);
-        return Err(ReplayError::NoMemory);
-    };
-    match marks.push(HostMark { text, processes }) {
-        Ok(()) => Ok(()),
-        Err(_) => Err(ReplayError::NoMemory),
-    }
-}
-
 /// What was counted of a process.
 fn tallies_in(processes: &[(u32, Tallies)], process: u32) -> Option<&Tallies>
     ensures { MatchOption result (tallies_of processes.now process ≡ None)
@@ -81,6 +50,24 @@ fn tallies_in(processes: &[(u32, Tallies)], process: u32) -> Option<&Tallies>
 }
 
 impl HostMark {
+    /// A mark with this text, where this was met.
+    ///
+    /// # Errors
+    /// `AllocError`: out of memory.
+    pub(crate) fn new(alloc: Global, text: &[u8], host: &HostReplay) -> Result<HostMark, AllocError>
+        ensures { IfOk result (λ mark. mark ≡ record {
+          text = text.now;
+          processes = map counted_in host.now.processes;
+        }) }
+    {
+        let processes = counted(alloc, host)?;
+        let Ok(text) = Vec::from_slice(alloc, text) else {
+            drop(processes);
+            return Err(AllocError);
+        };
+        Ok(HostMark { text, processes })
+    }
+
     /// Its text.
     pub fn text(&self) -> &[u8]
         ensures { result.now ≡ self.now.text }

@@ -10,7 +10,8 @@ ghost use Rattle.numa_traces.specs.Phases.{Closes};
 use crate::access::{Access, TraceLine, mark_in, read_access};
 use crate::fault::ReplayError;
 use crate::host::HostReplay;
-use crate::host_mark::{HostMark, close};
+use crate::host_mark::HostMark;
+use crate::mark::close;
 use crate::reading::ReplayLine;
 use std::alloc::Global;
 
@@ -68,7 +69,8 @@ impl HostTrace {
         ensures ok { OnOk result (ReplaysHostLine (Ok (Some (Closes text.now))) self.old self.new) }
         ensures err { IfErr result (EndsAtHostLine (Ok (Some (Closes text.now))) self.old) }
     {
-        close(self.alloc, &mut self.marks, text, &self.replay)
+        let mark = HostMark::new(self.alloc, text, &self.replay);
+        close(&mut self.marks, mark)
     }
 }
 

@@ -1,5 +1,5 @@
 //! Marks, each of which closes a phase of a trace.
-ghost use Rattle.std.specs.Prelude.{◌≡◌, ◌++◌, ◌∷◌, [], IfErr, IfOk, OnErr, OnOk};
+ghost use Rattle.std.specs.Prelude.{◌≡◌, ◌++◌, ◌∷◌, [], IfErr, IfOk, Ok, OnErr, OnOk};
 ghost use Rattle.numa_traces.specs.Phases.{since};
 ghost use Rattle.numa_traces.specs.declared.fault.ReplayError.TheVariants as fault;
 
@@ -38,7 +38,7 @@ impl Mark {
     ///
     /// # Errors
     /// `AllocError`: out of memory.
-    fn new(alloc: Global, text: &[u8], tallies: &Tallies) -> Result<Mark, AllocError>
+    pub(crate) fn new(alloc: Global, text: &[u8], tallies: &Tallies) -> Result<Mark, AllocError>
         ensures { IfOk result (λ mark.
             mark ≡ record { text = text.now; tallies = tallies.now }) }
     {
@@ -67,22 +67,20 @@ impl Mark {
     }
 }
 
-/// Adds a mark with this text behind others, where this was counted.
+/// Adds a mark behind others, if there was memory to make it.
 ///
 /// # Errors
 /// `NoMemory`: out of memory. Then nothing has changed.
-pub(crate) fn close(
-    alloc: Global,
-    marks: &mut Vec<Mark>,
-    text: &[u8],
-    tallies: &Tallies,
+pub(crate) fn close<T: Drop>(
+    marks: &mut Vec<T>,
+    made: Result<T, AllocError>,
 ) -> Result<(), ReplayError>
-    ensures marks { OnOk result (marks.new.items ≡ marks.old.items
-        ++ (record { text = text.now; tallies = tallies.now } ∷ [])) }
+    ensures marks { OnOk result ((mark : T) × (made ≡ Ok mark)
+        × (marks.new.items ≡ marks.old.items ++ (mark ∷ []))) }
     ensures err { IfErr result (λ why. why ≡ fault.NoMemory) }
     ensures unchanged { OnErr result (marks.new.items ≡ marks.old.items) }
 {
-    let Ok(mark) = Mark::new(alloc, text, tallies) else {
+    let Ok(mark) = made else {
         return Err(ReplayError::NoMemory);
     };
     match marks.push(mark) {

@@ -125,7 +125,8 @@ impl<'a> PlanReplay<'a> {
         ensures ok { OnOk result (ReplaysStep (Ok (Some (Closes text.now))) self.old self.new) }
         ensures err { IfErr result (EndsAtStep (Ok (Some (Closes text.now))) self.old) }
     {
-        close(self.alloc, &mut self.marks, text, self.replay.tallies())
+        let mark = Mark::new(self.alloc, text, self.replay.tallies());
+        close(&mut self.marks, mark)
     }
 }
 

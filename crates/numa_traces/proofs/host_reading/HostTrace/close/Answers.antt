@@ -3,7 +3,7 @@ use Rattle.numa_traces.specs.Hosting.{counted_in}
 use Rattle.numa_traces.specs.Phases.{accesses_in}
 use Rattle.numa_traces.specs.declared.host_reading.HostTrace.{HostTrace}
 use Rattle.numa_traces.proofs.Closing.{mark-of}
-use Rattle.numa_traces.proofs.Replays.{on-ok}
+use Rattle.numa_traces.proofs.Replays.{added-mark, on-ok}
 use Rattle.numa_traces.proofs.host_reading.HostTrace.close.Goals as goal
 
 pub returns-clause-ok : goal.returns-clause-ok
@@ -23,4 +23,6 @@ returns-clause-ok c =
           was.marks,
         );
       },
-    )) c.close.ensures.marks
+    )) (added-mark c.close.result c.new-mark.result old.marks.items c.close.new.marks.items
+    (record { text = text; processes = map counted_in old.replay.processes }) c.new-mark.ensures
+    c.close.ensures.marks)

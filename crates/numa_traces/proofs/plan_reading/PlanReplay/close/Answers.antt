@@ -2,7 +2,7 @@ use Rattle.std.proofs.Common.{refl}
 use Rattle.numa_traces.specs.Resting.{lies_where}
 use Rattle.numa_traces.specs.declared.plan_reading.PlanReplay.{PlanReplay}
 use Rattle.numa_traces.proofs.ByRange.{all-same}
-use Rattle.numa_traces.proofs.Replays.{on-ok}
+use Rattle.numa_traces.proofs.Replays.{added-mark, on-ok}
 use Rattle.numa_traces.proofs.Stepped.{closed}
 use Rattle.numa_traces.proofs.plan_reading.PlanReplay.close.Goals as goal
 
@@ -18,4 +18,6 @@ returns-clause-ok c =
             was.trace;
         ranges = was.ranges;
       },
-    )) c.close.ensures.marks
+    )) (added-mark c.close.result c.new-mark.result old.marks.items c.close.new.marks.items
+    (record { text = c.args.text.now; tallies = c.tallies.result.now }) c.new-mark.ensures
+    c.close.ensures.marks)
