@@ -13,11 +13,11 @@ pub returns : goal.returns
 returns c =
     told-bound reply_code (λ answer. Unit {0}) (Unit {0})
     (λ spec. Binds c.args.process c.args.start c.args.length spec pages.Strict) c.args.host.now
-    c.host_rules-rules.new.host c.bind_strictly.new.host c.bind_strictly.result
+    c.host_rules-rules.new.host c.bind_strictly_in.new.host c.bind_strictly_in.result
     (bound_spec (host_rules_in (host_in c.args.host.now)) c.args.length c.args.said)
     c.in-Ok.value
-    (λ fault. (c.bind_strictly.result ≡ word_code fault)
-    × (host_in c.bind_strictly.new.host ≡ host_in c.args.host.now))
+    (λ fault. (c.bind_strictly_in.result ≡ word_code fault)
+    × (host_in c.bind_strictly_in.new.host ≡ host_in c.args.host.now))
     (c.in-Ok.ensures
     ∙ ap (λ (rules : Rules). bound_spec rules c.args.length c.args.said)
-    c.host_rules-rules.ensures.rules) c.host_rules-rules.ensures.same c.bind_strictly.ensures
+    c.host_rules-rules.ensures.rules) c.host_rules-rules.ensures.same c.bind_strictly_in.ensures

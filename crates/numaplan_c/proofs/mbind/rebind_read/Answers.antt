@@ -12,15 +12,15 @@ use Rattle.numaplan_c.proofs.mbind.rebind_read.Goals as goal
 
 pub returns : goal.returns
 returns c =
-    told-bound reply_code (TellsSent c.args.bound.now c.rebind.new.bound)
-    (c.rebind.new.bound ≡ c.args.bound.now)
+    told-bound reply_code (TellsSent c.args.bound.now c.rebind_in.new.bound)
+    (c.rebind_in.new.bound ≡ c.args.bound.now)
     (λ spec. Binds c.args.process c.args.start c.args.length spec (pages.Move c.args.words))
-    c.args.host.now c.host_rules-rules.new.host c.rebind.new.host c.rebind.result
+    c.args.host.now c.host_rules-rules.new.host c.rebind_in.new.host c.rebind_in.result
     (bound_spec (host_rules_in (host_in c.args.host.now)) c.args.length c.args.said)
     c.in-Ok.value
-    (λ fault. (c.rebind.result ≡ word_code fault)
-    × (host_in c.rebind.new.host ≡ host_in c.args.host.now)
-    × (c.rebind.new.bound ≡ c.args.bound.now))
+    (λ fault. (c.rebind_in.result ≡ word_code fault)
+    × (host_in c.rebind_in.new.host ≡ host_in c.args.host.now)
+    × (c.rebind_in.new.bound ≡ c.args.bound.now))
     (c.in-Ok.ensures
     ∙ ap (λ (rules : Rules). bound_spec rules c.args.length c.args.said)
-    c.host_rules-rules.ensures.rules) c.host_rules-rules.ensures.same c.rebind.ensures
+    c.host_rules-rules.ensures.rules) c.host_rules-rules.ensures.same c.rebind_in.ensures
