@@ -14,6 +14,6 @@ returns-in-Nodes c = λ done tells.
 pub returns-in-Pages : goal.returns-in-Pages
 returns-in-Pages c = λ done tells.
     let small = pages-counted c.in-Pages.gone c.args.last.now done c.in-Pages.is tells in (
-      c.shift_with.ensures.moved ∙ ap (λ (n : ℕ). both_pages n (moved_of c.args.huge.now)) small.0,
-      c.shift_with.ensures.left ∙ ap (λ (n : ℕ). both_pages n (left_of c.args.huge.now)) small.1,
+      c.shift_with-in-Pages.ensures.moved ∙ ap (λ (n : ℕ). both_pages n (moved_of c.args.huge.now)) small.0,
+      c.shift_with-in-Pages.ensures.left ∙ ap (λ (n : ℕ). both_pages n (left_of c.args.huge.now)) small.1,
     )
