@@ -80,7 +80,8 @@ pub fn view_text<W: Watch>(
 }
 
 /// One of several predictions, as [`shared_text`], but in place of a page its data: the object of
-/// the state as its member `before`. With `tells_left` the text has what named nodes have left then.
+/// the state as its member `before`. With `tells_left` the text has what named nodes have left
+/// then.
 ///
 /// # Errors
 /// As [`shared_text`].

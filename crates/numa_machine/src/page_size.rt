@@ -3,8 +3,8 @@
 //! Pages and their indexes are counted in 4 KiB whatever the size of a page. Those of pages of 4
 //! KiB have the indexes below 2^36, from the offset of their mapping on. A page of 2 MiB is 512
 //! parts of 4 KiB in a row, which have the indexes from 2^36 on; so pages of two sizes never have
-//! consecutive indexes. From 2^37 on are the indexes of pages of shared objects, 2^36 for each: which
-//! object, and the number of its inode plus the page's place in it.
+//! consecutive indexes. From 2^37 on are the indexes of pages of shared objects, 2^36 for each:
+//! which object, and the number of its inode plus the page's place in it.
 ghost use Rattle.std.specs.Prelude.{◌≡◌, ◌+◌, ◌%◌, ◌==◌, ◌<◌, ◌≤◌, ◌^◌, ℕ};
 ghost use Rattle.numa_machine.specs.Sizes.{bytes_of, index_in, is_huge, is_inside, is_part};
 ghost use Rattle.numa_machine.specs.Sizes.{is_shared, parts_in, parts_left, round_of, shared_turn};

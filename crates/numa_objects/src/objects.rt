@@ -1,6 +1,6 @@
 //! Objects.
-ghost use Rattle.std.specs.Prelude.{◌≡◌, ◌+◌, ◌<◌, ◌≤◌, ◌^◌, ℕ, Option, List, [], ◌++◌, ◌∷◌, length};
-ghost use Rattle.std.specs.Prelude.{slice_get, Some, IfOk, IfSome};
+ghost use Rattle.std.specs.Prelude.{◌≡◌, ◌+◌, ◌<◌, ◌≤◌, ◌^◌, ℕ, Option, List, [], ◌++◌, ◌∷◌};
+ghost use Rattle.std.specs.Prelude.{length, slice_get, Some, IfOk, IfSome};
 ghost use Rattle.std.specs.Option.{option_map};
 ghost use Rattle.numa_objects.specs.Changes.{AreAdded, AreBound, AreOfObject, IsChanged};
 ghost use Rattle.numa_objects.specs.Changes.{add_cause, bind_cause, identity};

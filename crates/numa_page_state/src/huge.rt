@@ -1,6 +1,6 @@
 //! Pages of 2 MiB beside the other pages of a process, and first touches of pages of either size.
-ghost use Rattle.std.specs.Prelude.{◌≡◌, ◌+◌, ◌<◌, ◌≤◌, ◌^◌, ℕ, Err, IfErr, IfOk, IfSome, IsSomeAnd};
-ghost use Rattle.std.specs.Prelude.{List};
+ghost use Rattle.std.specs.Prelude.{◌≡◌, ◌+◌, ◌<◌, ◌≤◌, ◌^◌, ℕ, Err, IfErr, IfOk, IfSome};
+ghost use Rattle.std.specs.Prelude.{IsSomeAnd, List};
 ghost use Rattle.std.specs.Prelude.{[], MatchResult, None, OnErr, OnOk, Option, Some, true};
 ghost use Rattle.std.specs.Prelude.{is_some};
 ghost use Rattle.numa_maps.specs.Residents.{Kept};

@@ -35,12 +35,12 @@ impl HugeCount {
                  free; what pools have, and where such pages lie, doesn't\n"
             }
             HugeCount::Rows => {
-                "pages of 2 MiB: each counts as 512 pages of 4 KiB, in a row of a text as one; what \
-                 pools have, and where such pages lie, doesn't\n"
+                "pages of 2 MiB: each counts as 512 pages of 4 KiB, in a row of a text as one; \
+                 what pools have, and where such pages lie, doesn't\n"
             }
             HugeCount::Pooled => {
-                "pages of 2 MiB: each counts as 512 pages of 4 KiB, in a row of a text as one; they \
-                 come from their pools, and take no free page\n"
+                "pages of 2 MiB: each counts as 512 pages of 4 KiB, in a row of a text as one; \
+                 they come from their pools, and take no free page\n"
             }
             HugeCount::LeftOut => {
                 "pages of 2 MiB: none is in the answer; lines moved and pool tell of them\n"

@@ -427,14 +427,6 @@ impl Script {
         let taken = self.take(alloc, line);
         self.fault(taken)
     }
-
-    /// The same for a line that may be told to a process of a host, which this script hasn't.
-    pub fn judge_said(&mut self, alloc: Global, said: &ScriptLine<'_>) -> Option<Reply>
-        ensures { ScriptJudges self.old (own_line said.now) result self.new }
-    {
-        let taken = self.take_said(alloc, said);
-        self.fault(taken)
-    }
 }
 
 impl Serve for Script {

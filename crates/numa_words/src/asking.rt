@@ -33,8 +33,8 @@ pub enum Question<'a> {
 }
 
 /// Where all mapped pages would go after a script, as a text, if there is something of which it is
-/// asked. If it matters what nodes have, or what is there, pages of 2 MiB lie where their pools give
-/// them, which is said too, if there are some.
+/// asked. If it matters what nodes have, or what is there, pages of 2 MiB lie where their pools
+/// give them, which is said too, if there are some.
 pub(crate) fn prediction<P: Watch>(
     alloc: Global,
     script: &HostScript,
@@ -104,7 +104,8 @@ pub(crate) fn remarked<T: Write>(
     }
 }
 
-/// How an answer counts pages of 2 MiB, if it counts pages: one that explains where they go doesn't.
+/// How an answer counts pages of 2 MiB, if it counts pages: one that explains where they go
+/// doesn't.
 fn counts_huge(question: &Question<'_>) -> Option<HugeCount> {
     match question {
         Question::Predict(asked) => Some(HugeCount::predicted(asked.free, false)),

@@ -44,8 +44,8 @@ fn reading_for(question: &QuestionThere<'_>) -> Reading {
     }
 }
 
-/// How an answer counts pages of 2 MiB: that about pages that are there leaves them out, unless they
-/// are touched. One that explains where pages go counts none.
+/// How an answer counts pages of 2 MiB: that about pages that are there leaves them out, unless
+/// they are touched. One that explains where pages go counts none.
 fn counts_huge(question: &QuestionThere<'_>) -> Option<HugeCount> {
     match question {
         QuestionThere::Predict(_) => Some(HugeCount::Pooled),

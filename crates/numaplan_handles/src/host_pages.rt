@@ -137,8 +137,8 @@ fn touched(
 }
 
 impl HostHandle {
-    /// Changes where pages of a process lie, as a line says: `at`, `migrate` or `move`. The reply is
-    /// that of the line. `None` if the handle is closed.
+    /// Changes where pages of a process lie, as a line says: `at`, `migrate` or `move`. The reply
+    /// is that of the line. `None` if the handle is closed.
     pub fn change(&mut self, alloc: Global, process: u32, line: &PageLine) -> Option<Option<Reply>>
         requires change { is_change line.now ≡ true }
         ensures { Calls (OfRunning (ChangesPages process line.now)) (host_in self.old) result

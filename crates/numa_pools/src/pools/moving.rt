@@ -1,6 +1,6 @@
 //! Pages that become free, and pages that move.
 ghost use Rattle.std.specs.Prelude.{◌≡◌, ◌≢◌, ◌+◌, ◌-◌, ◌≤◌, ◌<◌, min};
-ghost use Rattle.numa_pools.specs.Pools.{can_move, free_at, freeing, has_spare, most, moving_one};
+ghost use Rattle.numa_pools.specs.Pools.{free_at, freeing, has_spare, most, moving_one};
 ghost use Rattle.numa_pools.specs.Pools.{renewing, surplus_at, total_at, unreserved};
 ghost use Rattle.numa_pools.specs.Moves.{carried, movable, moving, served, serving};
 
@@ -32,14 +32,6 @@ impl Pools {
         self.total[place] -= ending;
         self.surplus[place] -= ending;
         self.free[place] += pages - ending;
-    }
-
-    /// Whether a page can move to a node: one is free there and not reserved, or the node takes one
-    /// more.
-    pub fn can_move(&self, to: u8) -> bool
-        ensures { result ≡ can_move self.now to }
-    {
-        self.has_spare(to) || self.total[to as usize] < MOST
     }
 
     /// Whether a free page of a node can serve a move: one that is not reserved.
@@ -85,9 +77,9 @@ impl Pools {
         carried
     }
 
-    /// Moves pages, which processes have, from one node to another, as many as can (`can_move`);
-    /// returns how many. A free page of the target serves, and the old one becomes free; else one
-    /// page of the total changes nodes, and a surplus page, if there is one.
+    /// Moves pages, which processes have, from one node to another, as many as can; returns how
+    /// many. A free page of the target serves, and the old one becomes free; else one page of the
+    /// total changes nodes, and a surplus page, if there is one.
     pub fn move_pages(&mut self, from: u8, to: u8, pages: u64) -> u64
         requires other { from ≢ to }
         requires used { free_at self.old from + pages ≤ total_at self.old from }

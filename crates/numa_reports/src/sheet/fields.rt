@@ -54,8 +54,8 @@ pub(crate) fn placed_of(nodes: &[NodePages], pages: u64, fills: bool) -> PlacedP
     }
 }
 
-/// Whether each count is one of whole pages of 2 MiB. (Where parts of them take free pages of 4 KiB,
-/// it may not be.)
+/// Whether each count is one of whole pages of 2 MiB. (Where parts of them take free pages of
+/// 4 KiB, it may not be.)
 pub(crate) fn are_whole(nodes: &[NodePages]) -> bool {
     for one in nodes {
         if one.pages % PARTS != 0 {

@@ -212,8 +212,8 @@ fn answer_of<T: Write, P: Watch>(
     }
 }
 
-/// How an answer counts pages of 2 MiB: that about pages that are there leaves them out, unless they
-/// are touched. One that explains where pages go counts none.
+/// How an answer counts pages of 2 MiB: that about pages that are there leaves them out, unless
+/// they are touched. One that explains where pages go counts none.
 fn counts_huge(meant: Meant<'_>) -> Option<HugeCount> {
     let asking = meant.asking;
     match asking.question {
