@@ -67,6 +67,18 @@ pub(crate) fn on(nodes: &NodeMask, xs: &[u64; NODES]) -> [u64; NODES]
     those
 }
 
+/// The sum of the numbers of the nodes of a set.
+pub(crate) fn sum_on(nodes: &NodeMask, xs: &[u64; NODES]) -> u64
+    requires { sum xs.now < 2 ^ 64 }
+    ensures { result ≡ sum (on nodes.now xs.now) }
+{
+    let mut total = 0;
+    for node in 0..NODES {
+        total += number_on(nodes, xs, node);
+    }
+    total
+}
+
 /// Adds to the number of each node.
 pub(crate) fn add_each(xs: &mut [u64; NODES], ys: &[u64; NODES])
     requires { (node : ℕ) → slice_index xs.old node + slice_index ys.now node < 2 ^ 64 }

@@ -10,7 +10,7 @@ ghost use Rattle.numa_pools.specs.Pools.{taking, unreserved, used};
 mod moving;
 mod resizing;
 
-use crate::counts::{NODES, least_of, on, sum_of, take_each};
+use crate::counts::{NODES, least_of, sum_of, sum_on, take_each};
 use crate::shares::in_turn;
 use numa_machine::Machine;
 use numa_mask::NodeMask;
@@ -200,8 +200,7 @@ impl Pools {
         ensures lacks { result ≡ lacks_pages self.now pages nodes.now }
         ensures enough { result ≡ false → pages ≤ unreserved self.now }
     {
-        let those = on(nodes, &self.free);
-        self.unreserved() < pages || sum_of(&those) < pages
+        self.unreserved() < pages || sum_on(nodes, &self.free) < pages
     }
 
     /// Reserves the pages of a mapping, which are there (`lacks`).

@@ -1,0 +1,46 @@
+use Rattle.std.proofs.Common.{◌≡◌, ℕ, ◌<◌, ◌≤◌, ◌∙◌, ap, arith, length, sym}
+use Rattle.std.specs.Prelude.{sum}
+use Rattle.std.proofs.lemmas.List.{take_all}
+use Rattle.std.proofs.lemmas.List.Sums.{sum_by_more, sum_by_more_le}
+use Rattle.numa_pools.specs.Turns.{on}
+use Rattle.numa_pools.proofs.Each.{length-on, on-at, sum-on}
+use Rattle.numa_pools.proofs.counts.sum_on.Goals as goal
+
+pub overflow_add-total : goal.overflow_add-total
+overflow_add-total c =
+    let xs = c.args.xs.now in
+    let nodes = c.args.nodes.now in
+    let within : c.loop-node.node < length (on nodes xs) =
+    omega (arith, length-on nodes xs, c.loop-node.invariant.long, c.loop-node-test.true) in
+    omega (
+      arith,
+      c.requires,
+      sum-on nodes xs,
+      c.loop-node.invariant.sum,
+      c.number_on-total.ensures ∙ sym (on-at nodes xs c.loop-node.node),
+      sum_by_more_le (λ (x : ℕ). x) (on nodes xs) c.loop-node.node 0 within,
+    )
+
+pub loop-node-preserved : goal.loop-node-preserved
+loop-node-preserved c =
+    let xs = c.args.xs.now in
+    let nodes = c.args.nodes.now in
+    let within : c.loop-node.node < length (on nodes xs) =
+    omega (arith, length-on nodes xs, c.loop-node.invariant.long, c.loop-node-test.true) in
+    record {
+      long = c.loop-node.invariant.long;
+      sum = omega (
+        arith,
+        c.loop-node.invariant.sum,
+        c.number_on-total.ensures ∙ sym (on-at nodes xs c.loop-node.node),
+        sum_by_more (λ (x : ℕ). x) (on nodes xs) c.loop-node.node 0 within,
+      );
+    }
+
+pub returns : goal.returns
+returns c =
+    let xs = c.args.xs.now in
+    let nodes = c.args.nodes.now in
+    c.loop-node.invariant.sum
+    ∙ ap sum (take_all c.loop-node.node (on nodes xs)
+    (omega (arith, length-on nodes xs, c.loop-node.invariant.long, c.loop-node-test.false)))
