@@ -11,7 +11,6 @@ use std::alloc::Global;
 use std::hint::black_box;
 use std::io;
 use std::rt::Clock;
-use std::sync::Wait;
 use std::sync::atomic::{AtomicU64, Ordering};
 
 /// How many faults are timed at once.
@@ -137,12 +136,12 @@ fn faulting_at(alloc: Global, desk: &mut Desk) -> Option<Faulting> {
 }
 
 /// Prints what a worker places, or how long faults take.
-pub fn print<R: Print + Clock + Wait>(rt: &R, alloc: Global, measures: bool) -> io::Result<()> {
-    let Some(mut desk) = desk_of(rt, alloc) else {
+pub fn print<R: Print + Clock>(rt: &R, alloc: Global, measures: bool) -> io::Result<()> {
+    let Some(mut desk) = desk_of(alloc) else {
         return println!(rt; "no memory");
     };
     let made = faulting_at(alloc, &mut desk);
     let done = print_figures(rt, made, measures, &FIGURES);
-    desk.end(rt);
+    desk.end();
     done
 }

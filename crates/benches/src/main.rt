@@ -18,7 +18,6 @@ use crate::wanted::{Wanted, read_wanted};
 use std::alloc::Global;
 use std::io;
 use std::rt::Clock;
-use std::sync::Wait;
 
 /// What is measured together.
 #[derive(Clone, Copy)]
@@ -46,7 +45,7 @@ impl Topic {
 
 /// Prints a part's figures, or checksums of what its calls answer. Of the first program nothing is
 /// measured.
-fn print_part<R: Print + Clock + Wait>(
+fn print_part<R: Print + Clock>(
     rt: &R,
     alloc: Global,
     part: Topic,
@@ -65,11 +64,7 @@ fn print_part<R: Print + Clock + Wait>(
 
 /// Prints the figures of the part that is named, of all where the name is empty, or, where none is
 /// wanted, the checksums of each.
-fn print_parts<R: Print + Clock + Wait>(
-    rt: &R,
-    alloc: Global,
-    wanted: Option<&str>,
-) -> io::Result<()> {
+fn print_parts<R: Print + Clock>(rt: &R, alloc: Global, wanted: Option<&str>) -> io::Result<()> {
     for part in [
         Topic::First,
         Topic::Plan,

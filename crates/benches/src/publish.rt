@@ -12,7 +12,6 @@ use numa_publish::{Desk, PlanReader};
 use std::alloc::Global;
 use std::io;
 use std::rt::Clock;
-use std::sync::Wait;
 
 /// How many looks are timed at once.
 const LOOKS: u64 = 20_000;
@@ -44,7 +43,7 @@ enum Call {
 
 static FIGURES: [Figure<Call>; 2] = [(Call::Look, Call::Ask), (Call::Compile, Call::Publish)];
 
-impl<R: Print + Wait> Subject<R> for Published<'_> {
+impl<R: Print> Subject<R> for Published<'_> {
     type Call = Call;
 
     fn checksums(&mut self, rt: &R) -> io::Result<()> {
@@ -53,12 +52,12 @@ impl<R: Print + Wait> Subject<R> for Published<'_> {
         println!(rt; "ten looks: {versions}, lists of 100,000 pages: {lists}")
     }
 
-    fn make(&mut self, rt: &R, call: &Call) -> u64 {
+    fn make(&mut self, _rt: &R, call: &Call) -> u64 {
         match call {
             Call::Look => ask(&mut self.reader, LOOKS),
             Call::Ask => lists_in(&self.asked),
             Call::Compile => compile_into(self.alloc, self.desk.space(), &mut self.plan),
-            Call::Publish => publish_each(rt, self.desk),
+            Call::Publish => publish_each(self.desk),
         }
     }
 
@@ -107,11 +106,11 @@ fn ask(place: &mut Option<PlanReader>, count: u64) -> u64 {
 }
 
 /// Accepts commands, and publishes each; the sum of the versions.
-fn publish_each<R: Wait>(rt: &R, desk: &mut Desk) -> u64 {
+fn publish_each(desk: &mut Desk) -> u64 {
     let mut sum = 0u64;
     for number in 0..COMMANDS {
         bind_middle(desk, number);
-        if let Ok(receipt) = desk.publish(rt) {
+        if let Ok(receipt) = desk.publish() {
             sum = sum.wrapping_add(receipt.version());
         }
     }
@@ -133,14 +132,14 @@ fn published_at(alloc: Global, desk: &mut Desk) -> Published<'_> {
 }
 
 /// Prints what a reader sees, or how long looks and publishes take.
-pub fn print<R: Print + Clock + Wait>(rt: &R, alloc: Global, measures: bool) -> io::Result<()> {
+pub fn print<R: Print + Clock>(rt: &R, alloc: Global, measures: bool) -> io::Result<()> {
     // (a policy for the middle page makes three ranges of one)
     let ranges = if measures { RANGES - 2 } else { RANGES };
-    let Some(mut desk) = desk_of(rt, alloc, ranges) else {
+    let Some(mut desk) = desk_of(alloc, ranges) else {
         return println!(rt; "no memory");
     };
     let published = published_at(alloc, &mut desk);
     let done = print_figures(rt, Some(published), measures, &FIGURES);
-    desk.end(rt);
+    desk.end();
     done
 }

@@ -3,26 +3,17 @@ use Rattle.std.proofs.Common.{◌≡◌, ◌⊎◌, ℕ, ◌<◌, Option, Some, 
 use Rattle.std.proofs.Common.{◌++◌, length, reverse, refl, sym, ap, ◌∙◌, subst, inl, inr}
 use Rattle.std.proofs.Common.{arith}
 use Rattle.std.proofs.lemmas.List.{length-reverse, reverse-append}
-use Rattle.std.proofs.lemmas.Grind.{fold-append}
 use Rattle.logbook.specs.Pages.{Book}
 use Rattle.numa_requests.specs.declared.command.Command.{Command}
 use Rattle.numa_requests.specs.declared.refusal.Refusal.{Refusal}
 use Rattle.numa_space.specs.Standing.{SpaceState, StandsFor}
 use Rattle.numa_publish.specs.declared.batch.Batch.{Batch}
 use Rattle.numa_publish.specs.declared.issue.Notice.{Notice}
-use Rattle.numa_publish.specs.declared.issue.Shown.{Shown}
 use Rattle.numa_publish.specs.Batches.{batch_of, history_of}
+use Rattle.numa_publish.specs.Boards.{desk_in}
 use Rattle.numa_publish.proofs.Lists.{history-snoc}
 use Rattle.numa_publish.specs.Kept.{IsDeskKept, IsNoticeOf}
 use Rattle.numa_publish.specs.Shown.{DeskState, and_newest}
-use Rattle.numa_publish.specs.Knowing.{IsEarlier, last_of, notice_of, told_by}
-
--- the one that was appended last is the last that waits
-pub last_is : (notice : Notice) (waiting waiting' : List Shown) (next : Shown) → waiting' ≡ waiting
-    ++ next ∷ [] → last_of notice waiting' ≡ notice_of next
-last_is notice waiting waiting' next e =
-    ap (λ (w : List Shown). last_of notice w) e
-    ∙ fold-append (λ (_ : Notice) (o : Shown). notice_of o) notice waiting (next ∷ [])
 
 -- a refusal is that of the history, or want of memory
 pub answered : (first : Option Refusal) (refusal : Refusal)
@@ -65,19 +56,16 @@ accepted_kept space space' notice log book commands c commands' h e stands machi
       };
     }
 
+-- the desk that a notice tells of
+pub told_of : (space : SpaceState) (log : List Batch) (book : Book) (notice : Notice)
+    → IsNoticeOf space log book notice
+    → desk_in notice ≡ record { book = book; machine = space.machine }
+told_of space log book notice h = λ i. record { book = h.book_is i; machine = h.machine_is i }
+
 -- a log with the commands that were pending
 pub whole : (log : List Batch) (commands : List Command)
     → history_of (log ++ batch_of commands ∷ []) ≡ reverse commands ++ history_of log
 whole log commands = history-snoc log (batch_of commands)
-
--- what is published next comes after what is shown
-pub next_later : (space : SpaceState) (notice next : Notice) (log : List Batch) (book : Book)
-    (b : Batch) → IsNoticeOf space log book notice → IsNoticeOf space (log ++ b ∷ []) book next
-    → IsEarlier (told_by notice) (told_by next)
-next_later space notice next log book b is then = record {
-  log = (b ∷ [], ap (λ (l : List Batch). l ++ b ∷ []) is.log_is ∙ sym then.log_is);
-  desk = λ _. cc (is.book_is, then.book_is, is.machine_is, then.machine_is);
-}
 
 -- a desk that shows all that was accepted
 pub next_kept : (space : SpaceState) (notice next : Notice) (log : List Batch) (book : Book)

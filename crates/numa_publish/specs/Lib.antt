@@ -1,7 +1,7 @@
 pub mod Ghosts
 pub mod Batches
 pub mod LogRule
-pub mod Knowing
+pub mod Boards
 pub mod Shown
 pub mod Kept
 pub mod Spans

@@ -1,31 +1,33 @@
 //! Desks, which accept commands and publish plans.
 ghost use Rattle.std.specs.Prelude.{◌≡◌, ◌+◌, ◌≤◌, ◌∷◌, ◌++◌, [], length, reverse, slice_index};
 ghost use Rattle.std.specs.Prelude.{None, IfOk, IfErr, OnOk, OnErr};
-ghost use Rattle.left_right.specs.Sides.{view as place_view};
 ghost use Rattle.numa_space.specs.Refusals.{refusal_of};
 ghost use Rattle.numa_space.specs.Standing.{StandsFor};
 ghost use Rattle.numa_publish.specs.Shown.{Refuses, accepted_commands, new_reader, versions_after};
 ghost use Rattle.numa_publish.specs.Submits.{LeavesAfter};
 
+use crate::board::Showing;
 use crate::ghosts::About;
-use crate::issue::Issue;
+use crate::issue::{Issue, Shown};
+use crate::laws::equal_versions_agree;
 use crate::log::Log;
-use crate::publishing::{next_shown, opened, show_in_the_end};
+use crate::publishing::{let_go, opened, show_next};
 use crate::reader::PlanReader;
 use crate::receipt::Receipt;
-use crate::rule::{Introduces, ShownWriter};
 use crate::shared::SubmitRefusal;
+use crate::taker::Taker;
+use crate::view::PlanView;
 use numa_compile::PlannedSpace;
 use numa_machine::{Machine, NoMemory};
 use numa_requests::{Command, Limits, Refusal};
 use numa_space::Space;
 use std::alloc::Global;
 use std::marker::Model;
-use std::sync::Wait;
+use std::mem::replace;
 
 /// Accepts commands and publishes plans of all accepted commands, for 1 to 64 readers at once. A
-/// version is a number of accepted commands; version 0 is published from the start. A desk can't be
-/// dropped: `end` it.
+/// version is a number of accepted commands; version 0 is published from the start. No call waits
+/// for a reader. Once the desk is dropped, each `enter` fails.
 ///
 /// Contracts see the identity of the desk and its machine, its limits, the published history, the
 /// versions published so far and the pending commands, which are accepted and not yet published;
@@ -34,21 +36,26 @@ use std::sync::Wait;
 ///
 /// It keeps a plan of all accepted commands, which each command edits in place, and publishes
 /// copies of it; so the cost of a version depends on what its commands affect.
+#[derive(Drop)]
 pub struct Desk {
     alloc: Global,
-    writer: ShownWriter,
+    showing: Showing,
+    // The published version.
+    shown: Shown,
     log: Log,
     // Accepted and not published, the oldest first.
     pending: Vec<Command>,
     space: PlannedSpace,
+    // Older versions, of which readers still have shares: the last share is freed here.
+    spent: Vec<Shown>,
 }
 
 impl Model for Desk {
     ghost use Rattle.std.specs.Prelude.{◌≡◌, reverse};
-    ghost use Rattle.left_right.specs.Sides.{view as place_view};
+    ghost use Rattle.std.specs.Arc.{arc_value};
     ghost use Rattle.numa_publish.specs.Batches.{history_of, versions_of};
+    ghost use Rattle.numa_publish.specs.Boards.{desk_told, notice_of};
     ghost use Rattle.numa_publish.specs.Kept.{IsDeskKept};
-    ghost use Rattle.numa_publish.specs.Knowing.{notice_of, told};
     ghost use Rattle.numa_publish.specs.Shown.{DeskState};
 
     ghost Value = { DeskState };
@@ -62,9 +69,9 @@ impl Model for Desk {
     } };
 
     ghost invariant = { λ d.
-        IsDeskKept d.space (notice_of d.writer.desk.shown.value)
-        d.log.seen.log d.log.seen.book d.pending.items
-        × (place_view d.writer.desk.place ≡ told d.writer.desk.shown.value) };
+        IsDeskKept d.space (notice_of d.shown) d.log.seen.log d.log.seen.book d.pending.items
+        × ((arc_value d.showing.board).mark ≡ desk_told d.shown)
+        × (d.showing.turn.front ≡ d.shown.front) };
 }
 
 /// All readers' places are in use.
@@ -73,13 +80,11 @@ pub struct NoReader;
 
 impl Desk {
     /// A desk of this machine, with these limits, for at most `readers` readers at once. Nothing is
-    /// accepted, and version 0 is published. It takes a `Wait` for one step by which its writer
-    /// learns its desk; there is no reader yet for which that step could wait.
+    /// accepted, and version 0 is published.
     ///
     /// # Errors
     /// `NoMemory`: there is no memory for the plan of version 0 or for the readers' places.
-    pub fn new<R: Wait>(
-        rt: &R,
+    pub fn new(
         alloc: Global,
         machine: Machine,
         limits: Limits,
@@ -93,15 +98,17 @@ impl Desk {
     {
         let mut space = PlannedSpace::new(alloc, machine, limits);
         let log = Log::new();
-        let Ok(writer) = opened(rt, alloc, &mut space, &log.start, readers as usize) else {
+        let Ok((showing, shown)) = opened(alloc, &mut space, &log.start, readers as usize) else {
             return Err(NoMemory);
         };
         Ok(Desk {
             alloc,
-            writer,
+            showing,
+            shown,
             log,
             pending: Vec::new(alloc),
             space,
+            spent: Vec::new(alloc),
         })
     }
 
@@ -117,7 +124,7 @@ impl Desk {
         ensures length { result ≡ length self.now.published }
         ensures newest { result ≡ slice_index self.now.versions 0 }
     {
-        let issue: &Issue = &self.writer.published().issue;
+        let issue: &Issue = &self.shown.issue;
         issue.plan.version()
     }
 
@@ -166,7 +173,7 @@ impl Desk {
         ensures { (result.desk ≡ self.now.desk) × (result.history ≡ self.now.published)
             × (result.versions ≡ self.now.versions) }
     {
-        let issue: &Issue = &self.writer.published().issue;
+        let issue: &Issue = &self.shown.issue;
         Receipt::new(
             &self.log.seen,
             About::of(self.space.space().machine()),
@@ -175,13 +182,13 @@ impl Desk {
     }
 
     /// Publishes all accepted commands, and returns a receipt. With nothing pending it only returns
-    /// a receipt of the published version. Looks that begin later see the new version. It blocks
-    /// until views of the version before the published one are gone.
+    /// a receipt of the published version. Looks that begin later see the new version. It waits for
+    /// nobody, and lets go of those older versions that no reader has.
     ///
     /// # Errors
     /// `NoMemory`: out of memory. Then nothing has changed, and the next publish will publish the
     /// same.
-    pub fn publish<R: Wait>(&mut self, rt: &R) -> Result<Receipt, NoMemory>
+    pub fn publish(&mut self) -> Result<Receipt, NoMemory>
         ensures ok { OnOk result
             ((self.new.published ≡ accepted_commands self.old) × (self.new.pending ≡ [])) }
         ensures receipt { IfOk result (λ r.
@@ -194,11 +201,22 @@ impl Desk {
         if self.pending.is_empty() {
             return Ok(self.receipt());
         }
-        let Ok(next) = next_shown(self.alloc, &mut self.space, &mut self.log, &self.pending) else {
+        let Ok(()) = self.spent.reserve(1) else {
             return Err(NoMemory);
         };
-        show_in_the_end(&mut self.writer, rt, &next);
+        let Ok((turn, shown)) = show_next(
+            self.alloc,
+            &self.showing,
+            &mut self.space,
+            &mut self.log,
+            &self.pending,
+        ) else {
+            return Err(NoMemory);
+        };
+        self.showing.turn = turn;
         self.pending.clear();
+        self.spent.push_reserved(replace(&mut self.shown, shown));
+        let_go(&mut self.spent);
         Ok(self.receipt())
     }
 
@@ -207,11 +225,7 @@ impl Desk {
     /// # Errors
     /// `Refused`: as `accept`, and nothing has changed; else `Held`: `publish` ran out of memory,
     /// and the command is pending.
-    pub(crate) fn submit<R: Wait>(
-        &mut self,
-        rt: &R,
-        command: &Command,
-    ) -> Result<Receipt, SubmitRefusal>
+    pub(crate) fn submit(&mut self, command: &Command) -> Result<Receipt, SubmitRefusal>
         ensures receipt { IfOk result (λ r. (r.desk ≡ self.new.desk)
             × (r.history ≡ command.now ∷ accepted_commands self.old)) }
         ensures published { OnOk result ((self.new.published ≡
@@ -223,7 +237,7 @@ impl Desk {
             Ok(version) => version,
             Err(refusal) => return Err(SubmitRefusal::Refused(refusal)),
         };
-        match self.publish(rt) {
+        match self.publish() {
             Ok(receipt) => Ok(receipt),
             Err(_) => Err(SubmitRefusal::Held(version)),
         }
@@ -232,28 +246,43 @@ impl Desk {
     /// A new reader, which has seen only version 0.
     ///
     /// # Errors
-    /// `NoReader`: each place is in use, or was found in use while readers come and go.
-    pub fn reader(&mut self) -> Result<PlanReader, NoReader>
-        ensures same { self.new ≡ self.old }
-        ensures new { IfOk result (λ r. r ≡ new_reader self.old.desk) }
+    /// `NoReader`: each place is in use.
+    pub fn reader(&self) -> Result<PlanReader, NoReader>
+        ensures new { IfOk result (λ r. r ≡ new_reader self.now.desk) }
     {
-        let Ok(mut reader) = self.writer.factory().reader() else {
+        if self.showing.is_full() {
+            return Err(NoReader);
+        }
+        let Ok(taker) = Taker::new(&self.showing, &self.shown) else {
             return Err(NoReader);
         };
-        let note = self.writer.tell::<Introduces>();
-        reader.learn::<Introduces>(note);
-        Ok(PlanReader::new(reader, self.log.start.again()))
+        Ok(PlanReader::new(taker, self.log.start.again()))
     }
 
-    /// Ends the desk. It blocks until no view is held; from then on each `enter` fails.
-    pub fn end<R: Wait>(self, rt: &R) {
-        let Desk {
-            alloc: _,
-            writer,
-            log: _,
-            pending: _,
-            space: _,
-        } = self;
-        writer.take(rt);
+    /// A new reader that looks at what is published.
+    ///
+    /// # Errors
+    /// `NoReader`: as `reader`.
+    pub fn view(&self) -> Result<PlanView, NoReader>
+        ensures desk { IfOk result (λ v. v.desk ≡ self.now.desk) }
+        ensures shown { IfOk result (λ v. (v.history ≡ self.now.published)
+            × (v.versions ≡ self.now.versions)) }
+    {
+        let published = self.receipt();
+        let Ok(view) = self.reader()?.enter() else {
+            return Err(NoReader);
+        };
+        let shown = view.receipt();
+        // Nobody else publishes, so they are of one version, which no proof can see.
+        if shown.version() != published.version() {
+            return Err(NoReader);
+        }
+        equal_versions_agree(&shown, &published);
+        Ok(view)
+    }
+
+    /// Ends the desk: from now on each `enter` fails. Views that are held stay as they are.
+    pub fn end(self) {
+        drop(self);
     }
 }

@@ -1,5 +1,5 @@
 //! Published plans with their histories.
-ghost use Rattle.std.specs.Prelude.{◌≡◌, ℕ, ◌<◌, length};
+ghost use Rattle.std.specs.Prelude.{◌≡◌, ℕ, ◌<◌, length, IfOk};
 ghost use Rattle.std.specs.Option.{ForSome};
 ghost use Rattle.std.specs.Arc.{arc_value};
 ghost use Rattle.numa_plan.specs.Meaning.{planned_list};
@@ -11,9 +11,11 @@ ghost use Rattle.numa_publish.specs.Batches.{history_of};
 
 use crate::ghosts::{About, History};
 use crate::log::Front;
-use left_right::Absorb;
+use counted_slot::Fits;
+use numa_machine::Machine;
 use numa_plan::Plan;
 use std::alloc::AllocError;
+use std::marker::Model;
 use std::sync::Arc;
 
 /// A plan; and, without bytes, its machine and the history for which it stands.
@@ -35,9 +37,35 @@ pub struct Notice {
     pub front: Front,
 }
 
-/// The value of which readers look at one copy while the writer has the other: an issue, and,
-/// without bytes, the prefix of the log for which it stands. An operation is the next value itself,
-/// and both copies share its issue.
+/// Which desk it is. It has no bytes.
+#[derive(Drop)]
+pub struct Mark {
+    front: Front,
+    machine: About,
+}
+
+impl Model for Mark {
+    ghost use Rattle.numa_publish.specs.Shown.{DeskIdentity};
+
+    ghost Value = { DeskIdentity };
+
+    ghost view = { λ m. record { book = m.front.book; machine = m.machine } };
+}
+
+impl Mark {
+    /// The desk of this machine whose log this is.
+    pub fn of(front: &Front, machine: &Machine) -> Mark
+        ensures { result ≡ record { book = front.now.book; machine = machine.now } }
+    {
+        Mark {
+            front: front.again(),
+            machine: About::of(machine),
+        }
+    }
+}
+
+/// What readers see: an issue, and, without bytes, the prefix of the log for which it stands. Each
+/// who sees it has a share of the issue.
 #[derive(Drop)]
 pub struct Shown {
     pub issue: Arc<Issue>,
@@ -45,26 +73,26 @@ pub struct Shown {
     pub ghost whole: { history_of front.log ≡ (arc_value issue).history },
 }
 
-impl Absorb<Shown> for Shown {
-    ghost use Rattle.numa_publish.specs.Knowing.{notice_of};
+impl Fits for Shown {
+    ghost use Rattle.std.specs.Prelude.{◌≡◌};
+    ghost use Rattle.numa_publish.specs.Boards.{desk_told};
 
-    type State = Notice;
+    type Tag = Mark;
 
-    ghost state = { notice_of };
+    ghost fits = { λ desk shown. desk_told shown ≡ desk };
+}
 
-    ghost applied = { λ _ o. notice_of o };
+impl Shown {
+    ghost use Rattle.numa_publish.specs.Boards.{notice_of};
 
-    fn absorb_first(&mut self, operation: &Shown, _other: &Shown) -> Result<(), AllocError> {
-        let issue = Arc::try_clone(&operation.issue)?;
-        *self = Shown {
+    /// The same once more.
+    pub fn again(&self) -> Result<Shown, AllocError>
+        ensures { IfOk result (λ s. notice_of s ≡ notice_of self.now) }
+    {
+        let issue = Arc::try_clone(&self.issue)?;
+        Ok(Shown {
             issue,
-            front: operation.front.again(),
-        };
-        Ok(())
-    }
-
-    fn absorb_second(&mut self, operation: Shown, _other: &Shown) -> Result<(), Shown> {
-        *self = operation;
-        Ok(())
+            front: self.front.again(),
+        })
     }
 }

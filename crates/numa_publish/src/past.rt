@@ -1,6 +1,9 @@
 //! A reader's past.
-ghost use Rattle.std.specs.Prelude.{◌≡◌};
+ghost use Rattle.std.specs.Prelude.{◌≡◌, ◌≤◌, length};
+ghost use Rattle.std.specs.Arc.{arc_value};
+ghost use Rattle.numa_publish.specs.Batches.{Extends, history_of, versions_of};
 
+use crate::issue::{Issue, Shown};
 use crate::log::Front;
 use numa_ghost::Count;
 
@@ -30,5 +33,26 @@ impl Past {
             enters: Count::zero(),
             refused: Count::zero(),
         }
+    }
+
+    /// The reader has now seen this version, which isn't older than its own.
+    pub fn see(&mut self, shown: &Shown)
+        requires book { shown.now.front.book ≡ self.old.front.book }
+        requires version { self.old.version ≡ length (history_of self.old.front.log) }
+        requires later { self.old.version ≤ length (arc_value shown.now.issue).history }
+        ensures book { self.new.front.book ≡ self.old.front.book }
+        ensures version { self.new.version ≡ length (history_of self.new.front.log) }
+        ensures history { history_of self.new.front.log ≡ (arc_value shown.now.issue).history }
+        ensures seen { Extends (history_of self.old.front.log) (history_of self.new.front.log) }
+        ensures versions { Extends (versions_of self.old.front.log)
+            (versions_of self.new.front.log) }
+        ensures counts { (self.new.enters ≡ self.old.enters)
+            × (self.new.refused ≡ self.old.refused) }
+    {
+        let issue: &Issue = &shown.issue;
+        let mut both = self.front.again();
+        both.learn(&shown.front);
+        self.front = shown.front.again();
+        self.version = issue.plan.version();
     }
 }

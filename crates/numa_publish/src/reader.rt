@@ -1,16 +1,16 @@
 //! Readers that aren't looking.
-ghost use Rattle.std.specs.Prelude.{◌≡◌, ◌+◌, ◌≤◌, [], true, length, slice_get};
-ghost use Rattle.std.specs.Prelude.{Some, IfOk, MatchResult, IsTrue, ◌↔◌};
-ghost use Rattle.left_right.specs.Sides.{view as place_view};
-ghost use Rattle.numa_publish.specs.Batches.{Extends};
+ghost use Rattle.std.specs.Prelude.{◌≡◌, ◌+◌, ◌≤◌, [], length, slice_get};
+ghost use Rattle.std.specs.Prelude.{Some, IfOk, OnOk, OnErr, MatchResult, IsTrue, ◌↔◌};
+ghost use Rattle.std.specs.Arc.{arc_value};
+ghost use Rattle.numa_publish.specs.Batches.{Extends, history_of, versions_of};
+ghost use Rattle.numa_publish.specs.Boards.{desk_told};
 ghost use Rattle.numa_publish.specs.Kept.{IsReaderKept, reader_shown};
 ghost use Rattle.numa_publish.specs.Shown.{IsOneOf, new_reader};
 
-use crate::issue::{Issue, Shown};
 use crate::log::Front;
 use crate::past::Past;
 use crate::receipt::Receipt;
-use crate::rule::{ReaderLook, ShownReader};
+use crate::taker::{LookRefusal, Taker};
 use crate::view::PlanView;
 use std::marker::Model;
 
@@ -23,43 +23,70 @@ use std::marker::Model;
 /// byte.
 #[derive(Drop)]
 pub struct PlanReader {
-    reader: ShownReader,
+    taker: Taker,
     past: Past,
 }
 
 impl Model for PlanReader {
-    ghost use Rattle.left_right.specs.Sides.{view as place_view};
     ghost use Rattle.numa_publish.specs.Kept.{IsReaderKept, reader_shown};
     ghost use Rattle.numa_publish.specs.Shown.{ReaderState};
 
     ghost Value = { ReaderState };
 
-    ghost view = { λ r. reader_shown r.past (place_view r.reader.place).machine };
+    ghost view = { λ r. reader_shown r.past r.taker.shown };
 
-    ghost invariant = { λ r. IsReaderKept r.past (place_view r.reader.place) };
+    ghost invariant = { λ r. IsReaderKept r.past r.taker.shown };
+}
+
+/// A reader takes the newest version, which isn't older than `least` or than what it has seen or
+/// learnt.
+///
+/// # Errors
+/// As `Taker::renew`: it keeps what it has.
+pub(crate) fn look(taker: &mut Taker, past: &mut Past, least: u64) -> Result<(), LookRefusal>
+    requires { IsReaderKept past.old taker.old.shown }
+    ensures kept { IsReaderKept past.new taker.new.shown }
+    ensures desk { (past.new.front.book ≡ past.old.front.book)
+        × (desk_told taker.new.shown ≡ desk_told taker.old.shown) }
+    ensures seen { Extends (history_of past.old.front.log) (history_of past.new.front.log) }
+    ensures versions { Extends (versions_of past.old.front.log) (versions_of past.new.front.log) }
+    ensures shown { OnOk result
+        (history_of past.new.front.log ≡ (arc_value taker.new.shown.issue).history) }
+    ensures least { OnOk result (least ≤ length (history_of past.new.front.log)) }
+    ensures unchanged { OnErr result
+        ((taker.new ≡ taker.old) × (past.new.front ≡ past.old.front)) }
+    ensures enters { past.new.enters ≡ past.old.enters + 1 }
+    ensures refused { MatchResult result (λ _. past.new.refused ≡ past.old.refused)
+        (λ _. past.new.refused ≡ past.old.refused + 1) }
+{
+    past.enters = past.enters.next();
+    if let Err(refusal) = taker.renew(past.version.max(least)) {
+        past.refused = past.refused.next();
+        return Err(refusal);
+    }
+    past.see(&taker.shown);
+    Ok(())
 }
 
 impl PlanReader {
-    /// A reader at a place that knows its desk, which has seen only version 0.
-    pub(crate) fn new(reader: ShownReader, front: Front) -> PlanReader
-        requires named { (place_view reader.place).named ≡ true }
-        requires book { (place_view reader.place).front.book ≡ front.book }
-        requires empty { (front.log ≡ []) × ((place_view reader.place).front.log ≡ []) }
-        ensures { result ≡ new_reader
-            (record { book = front.book; machine = (place_view reader.place).machine }) }
+    /// A reader at a place, which has seen only version 0.
+    pub(crate) fn new(taker: Taker, front: Front) -> PlanReader
+        requires book { taker.shown.front.book ≡ front.book }
+        requires empty { front.log ≡ [] }
+        ensures { result ≡ new_reader (desk_told taker.shown) }
     {
         PlanReader {
-            reader,
+            taker,
             past: Past::none(front),
         }
     }
 
     /// A reader at a place, with this past.
-    pub(crate) fn back(reader: ShownReader, past: Past) -> PlanReader
-        requires { IsReaderKept past (place_view reader.place) }
-        ensures { result ≡ reader_shown past (place_view reader.place).machine }
+    pub(crate) fn back(taker: Taker, past: Past) -> PlanReader
+        requires { IsReaderKept past taker.shown }
+        ensures { result ≡ reader_shown past taker.shown }
     {
-        PlanReader { reader, past }
+        PlanReader { taker, past }
     }
 
     /// Returns the reader, which has now seen the longer of the receipt's history and its own. It
@@ -74,16 +101,16 @@ impl PlanReader {
             × Extends receipt.now.versions result.versions }
         ensures counts { (result.enters ≡ self.enters) × (result.refused ≡ self.refused) }
     {
-        let PlanReader { reader, mut past } = self;
+        let PlanReader { taker, mut past } = self;
         let told = receipt.version();
         let mut both = past.front.again();
         both.learn(&receipt.front);
         if past.version < told {
             past.front = receipt.front.again();
             past.version = told;
-            return PlanReader::back(reader, past);
+            return PlanReader::back(taker, past);
         }
-        PlanReader::back(reader, past)
+        PlanReader::back(taker, past)
     }
 
     /// What the reader has seen or learnt and what the receipt shows are of one log: of the two,
@@ -140,30 +167,13 @@ impl PlanReader {
         ensures refused { MatchResult result
             (λ v. v.refused ≡ self.refused) (λ r. r.refused ≡ self.refused + 1) }
     {
-        let PlanReader { reader, mut past } = self;
-        past.enters = past.enters.next();
-        let reading = match reader.enter_as::<ReaderLook>() {
-            Ok(reading) => reading,
-            Err(reader) => {
-                past.refused = past.refused.next();
-                return Err(PlanReader::back(reader, past));
-            }
-        };
-        let value: &Shown = reading.get();
-        let issue: &Issue = &value.issue;
-        let shown = issue.plan.version();
-        let next = value.front.again();
-        let mut both = past.front.again();
-        both.learn(&next);
-        // A receipt is made after its version was published, so what is shown is never older, which
-        // no proof can see.
-        if shown < past.version {
-            let reader = reading.leave();
-            past.refused = past.refused.next();
-            return Err(PlanReader::back(reader, past));
+        let PlanReader {
+            mut taker,
+            mut past,
+        } = self;
+        if look(&mut taker, &mut past, 0).is_err() {
+            return Err(PlanReader::back(taker, past));
         }
-        past.front = next;
-        past.version = shown;
-        Ok(PlanView::new(reading, past))
+        Ok(PlanView::new(taker, past))
     }
 }

@@ -25,7 +25,7 @@ pub trait DeskName {
 }
 
 impl DeskName for Brand {
-    ghost use Rattle.numa_publish.specs.Knowing.{no_book};
+    ghost use Rattle.numa_publish.specs.Boards.{no_book};
     ghost use Rattle.numa_publish.specs.Ghosts.{no_bounds, no_machine};
 
     ghost desk = { record { book = no_book; machine = no_machine } };
@@ -62,13 +62,13 @@ impl<K: DeskName> Model for NamedDesk<K> {
 
 impl<K: DeskName> NamedDesk<K> {
     /// `Desk::submit`.
-    fn submit<R: Wait>(&mut self, rt: &R, command: &Command) -> Result<Receipt, SubmitRefusal>
+    fn submit(&mut self, command: &Command) -> Result<Receipt, SubmitRefusal>
         ensures desk { IfOk result (λ r. r.desk ≡ K.desk) }
         ensures newest { IfOk result (λ r.
             (before : List Command) × (r.history ≡ command.now ∷ before)) }
         ensures err { IfErr result (IsRefusedBy K.desk.machine K.bounds command.now) }
     {
-        self.desk.submit(rt, command)
+        self.desk.submit(command)
     }
 
     /// `Desk::reader`.
@@ -102,7 +102,7 @@ impl<K: DeskName> SharedDesk<K> {
     }
 
     /// Accepts a command and publishes all accepted commands. The receipt's history has the command
-    /// in front. It blocks for the lock, and like `Desk::publish` for views.
+    /// in front. It blocks for the lock.
     ///
     /// # Errors
     /// `Refused`: as `Desk::accept`, behind the commands that came before; else `Held`: it is
@@ -113,7 +113,7 @@ impl<K: DeskName> SharedDesk<K> {
             (before : List Command) × (r.history ≡ command.now ∷ before)) }
         ensures err { IfErr result (IsRefusedBy K.desk.machine K.bounds command.now) }
     {
-        self.lock.lock(rt).submit(rt, command)
+        self.lock.lock(rt).submit(command)
     }
 
     /// A new reader, which has seen only version 0. It blocks for the lock.

@@ -1,8 +1,7 @@
 //! Views: readers that are looking at a plan.
-ghost use Rattle.std.specs.Prelude.{◌≡◌, ◌+◌, ◌<◌, ◌≤◌, ℕ, true, length, slice_index, Some, IfOk};
-ghost use Rattle.std.specs.Prelude.{IfErr, OnOk, OnErr, EachIndex};
+ghost use Rattle.std.specs.Prelude.{◌≡◌, ◌+◌, ◌<◌, ◌≤◌, ℕ, true, length, slice_get, slice_index};
+ghost use Rattle.std.specs.Prelude.{Some, IfOk, IfErr, OnOk, OnErr, EachIndex, MatchResult};
 ghost use Rattle.std.specs.Arc.{arc_value};
-ghost use Rattle.left_right.specs.Sides.{view as place_view};
 ghost use Rattle.numa_plan.specs.Counted.{FindsQuickly};
 ghost use Rattle.numa_space.specs.Lists.{node_list};
 ghost use Rattle.numa_space.specs.Pages.{is_mapped};
@@ -10,53 +9,70 @@ ghost use Rattle.numa_space.specs.Policies.{allowed_nodes};
 ghost use Rattle.numa_space.specs.Refusals.{range_count_of};
 ghost use Rattle.numa_space.specs.Standing.{IsNodeList, place_refusal_of};
 ghost use Rattle.numa_compile.specs.Spans.{first_node, meant_count, SpanIsRefused};
+ghost use Rattle.numa_publish.specs.Batches.{Extends};
 ghost use Rattle.numa_publish.specs.Kept.{IsViewKept, view_shown};
 ghost use Rattle.numa_publish.specs.Spans.{SpanStands};
 
 use crate::issue::Issue;
 use crate::past::Past;
-use crate::reader::PlanReader;
+use crate::reader::{PlanReader, look};
 use crate::receipt::Receipt;
-use crate::rule::ShownReading;
+use crate::taker::{LookRefusal, Taker};
 use numa_compile::every_plan;
 use numa_machine::PlaceRefusal;
 use numa_plan::{Steps, Tally};
 use numa_requests::Request;
 use std::marker::Model;
 
-/// A reader with the published plan at which it looks, which doesn't change while the view is held.
-/// A publish after the next one, and the end of the desk, block for it. It can't be dropped:
-/// `leave` returns the reader.
+/// A reader with the plan that it took, which doesn't change until it is asked to `renew`. It holds
+/// up nobody. `leave` returns the reader; a view that is dropped gives its place back.
 ///
 /// Contracts see its desk, the history for which the plan stands, the versions published up to it,
 /// and the reader's numbers of enters and of refused ones.
+#[derive(Drop)]
 pub struct PlanView {
-    reading: ShownReading,
+    taker: Taker,
     past: Past,
 }
 
 impl Model for PlanView {
-    ghost use Rattle.std.specs.Arc.{arc_value};
-    ghost use Rattle.left_right.specs.Sides.{view as place_view};
     ghost use Rattle.numa_publish.specs.Kept.{IsViewKept, view_shown};
     ghost use Rattle.numa_publish.specs.Shown.{ViewState};
 
     ghost Value = { ViewState };
 
-    ghost view = { λ r. view_shown r.past (place_view r.reading.place).machine };
+    ghost view = { λ r. view_shown r.past r.taker.shown };
 
-    ghost invariant = { λ r. IsViewKept r.past (place_view r.reading.place)
-        (arc_value r.reading.part.value.issue) };
+    ghost invariant = { λ r. IsViewKept r.past r.taker.shown };
 }
 
 impl PlanView {
-    /// A view of the plan at this place, by a reader that has seen it.
-    pub(crate) fn new(reading: ShownReading, past: Past) -> PlanView
-        requires { IsViewKept past (place_view reading.place)
-            (arc_value reading.part.value.issue) }
-        ensures { result ≡ view_shown past (place_view reading.place).machine }
+    /// A view of the version that a reader took last and has seen.
+    pub(crate) fn new(taker: Taker, past: Past) -> PlanView
+        requires { IsViewKept past taker.shown }
+        ensures { result ≡ view_shown past taker.shown }
     {
-        PlanView { reading, past }
+        PlanView { taker, past }
+    }
+
+    /// Looks again: the view is of the newest version from now on. It takes no memory and waits for
+    /// nobody.
+    ///
+    /// # Errors
+    /// `Ended`: the desk has ended; else `NotYet`: the newest version that could be taken is older
+    /// than `least`. The view stays as it was.
+    pub fn renew(&mut self, least: u64) -> Result<(), LookRefusal>
+        ensures desk { self.new.desk ≡ self.old.desk }
+        ensures seen { Extends self.old.history self.new.history }
+        ensures versions { Extends self.old.versions self.new.versions }
+        ensures published { slice_get self.new.versions 0 ≡ Some (length self.new.history) }
+        ensures least { OnOk result (least ≤ length self.new.history) }
+        ensures unchanged { OnErr result (self.new.history ≡ self.old.history) }
+        ensures enters { self.new.enters ≡ self.old.enters + 1 }
+        ensures refused { MatchResult result (λ _. self.new.refused ≡ self.old.refused)
+            (λ _. self.new.refused ≡ self.old.refused + 1) }
+    {
+        look(&mut self.taker, &mut self.past, least)
     }
 
     /// The version: the number of commands accepted up to it.
@@ -90,7 +106,7 @@ impl PlanView {
             (range_count_of self.now.desk.machine self.now.history) }
     {
         every_plan();
-        let issue: &Issue = &self.reading.get().issue;
+        let issue: &Issue = &self.taker.shown.issue;
         let Request { task, page, cpu } = request;
         issue.plan.choice(task, page, cpu, steps)
     }
@@ -135,7 +151,7 @@ impl PlanView {
         ensures unchanged { OnErr result (out.new ≡ out.old) }
     {
         every_plan();
-        let issue: &Issue = &self.reading.get().issue;
+        let issue: &Issue = &self.taker.shown.issue;
         // Tells the proof that the plan's runs are disjoint and end by page 2^35.
         let _ = issue.plan.run_count();
         issue.plan.fill(task, first, cpu, out)?;
@@ -157,7 +173,7 @@ impl PlanView {
             self.now.desk.machine self.now.history first pages cpu refusal) }
     {
         every_plan();
-        let issue: &Issue = &self.reading.get().issue;
+        let issue: &Issue = &self.taker.shown.issue;
         // Tells the proof that the plan's runs are disjoint and end by page 2^35.
         let _ = issue.plan.run_count();
         let counts = issue.plan.counts(task, first, pages, cpu)?;
@@ -169,7 +185,7 @@ impl PlanView {
         ensures { (result.desk ≡ self.now.desk) × (result.history ≡ self.now.history)
             × (result.versions ≡ self.now.versions) }
     {
-        let issue: &Issue = &self.reading.get().issue;
+        let issue: &Issue = &self.taker.shown.issue;
         Receipt::new(&self.past.front, issue.machine.again(), self.past.version)
     }
 
@@ -180,7 +196,7 @@ impl PlanView {
         ensures versions { result.versions ≡ self.versions }
         ensures counts { (result.enters ≡ self.enters) × (result.refused ≡ self.refused) }
     {
-        let PlanView { reading, past } = self;
-        PlanReader::back(reading.leave(), past)
+        let PlanView { taker, past } = self;
+        PlanReader::back(taker, past)
     }
 }

@@ -17,24 +17,17 @@ use numa_publish::laws::equal_versions_agree;
 use numa_publish::{Desk, PlanReader, Receipt};
 use numa_requests::{Command, Limits, Refusal};
 use std::alloc::Global;
-use std::sync::Wait;
 
 /// `Desk::new`: the desk of the opening world of any setup with this machine and these limits.
 ///
 /// # Errors
 /// As `Desk::new`.
-pub fn open(
-    rt: &impl Wait,
-    alloc: Global,
-    machine: Machine,
-    limits: Limits,
-    readers: u32,
-) -> Result<Desk, NoMemory>
+pub fn open(alloc: Global, machine: Machine, limits: Limits, readers: u32) -> Result<Desk, NoMemory>
     requires { (1 ≤ readers) × (readers ≤ 64) }
     ensures opens { IfOk result (λ d. (s : Setup) → s.machine ≡ machine → s.bounds ≡ limits
         → IsDeskOf s opening d) }
 {
-    Desk::new(rt, alloc, machine, limits, readers)
+    Desk::new(alloc, machine, limits, readers)
 }
 
 /// `Desk::accept`: an Accept with the same answer, except on out-of-memory.
@@ -58,7 +51,7 @@ pub fn accept(desk: &mut Desk, command: &Command) -> Result<u64, Refusal>
 ///
 /// # Errors
 /// As `Desk::publish`.
-pub fn publish<R: Wait>(desk: &mut Desk, rt: &R) -> Result<Receipt, NoMemory>
+pub fn publish(desk: &mut Desk) -> Result<Receipt, NoMemory>
     ensures ok { OnOk result ((s : Setup) (world : World) → IsDeskOf s world desk.old
         → desk.old.pending ≢ []
         → LeadsTo s world
@@ -73,7 +66,7 @@ pub fn publish<R: Wait>(desk: &mut Desk, rt: &R) -> Result<Receipt, NoMemory>
     ensures versions { IfOk result (λ r. (s : Setup) (world : World) → IsDeskOf s world desk.new
         → HasPublished world r.history r.versions) }
 {
-    desk.publish(rt)
+    desk.publish()
 }
 
 /// Compares a receipt, of a publish or a view, with its desk: if its version isn't above the one

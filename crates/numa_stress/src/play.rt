@@ -150,7 +150,7 @@ fn play_to_the_end<K: DeskName + Send + Sync, R: Threads + Wait + Sync>(
 {
     let shared = SharedDesk::<K>::new(desk);
     let report = play_on(rt, alloc, &shared, count);
-    shared.into_desk().end(rt);
+    shared.into_desk().end();
     report
 }
 
@@ -160,7 +160,7 @@ fn storm_once<R: Threads + Wait + Sync>(rt: &R, alloc: Global, count: u32) -> Op
     ensures { IfSome result (λ report. report.workers ≡ count) }
 {
     let machine = machine(alloc)?;
-    let desk = Desk::new(rt, alloc, machine, limits()?, count).ok()?;
+    let desk = Desk::new(alloc, machine, limits()?, count).ok()?;
     play_to_the_end::<Brand, R>(rt, alloc, desk, count)
 }
 

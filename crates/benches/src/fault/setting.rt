@@ -4,7 +4,6 @@ use numa_machine::{Machine, PageSize};
 use numa_publish::Desk;
 use numa_requests::{Command, Limits, Request};
 use std::alloc::Global;
-use std::sync::Wait;
 
 /// How many pages are mapped, from the first one on.
 const PAGES: u64 = 65_536;
@@ -31,11 +30,11 @@ fn accept_all(desk: &mut Desk) {
 }
 
 /// A desk of that machine, which has published that.
-pub fn desk_of<R: Wait>(rt: &R, alloc: Global) -> Option<Desk> {
+pub fn desk_of(alloc: Global) -> Option<Desk> {
     let limits = Limits::new(65_536, 1_024, 4_294_967_295)?;
-    let mut desk = Desk::new(rt, alloc, machine_of(alloc)?, limits, 8).ok()?;
+    let mut desk = Desk::new(alloc, machine_of(alloc)?, limits, 8).ok()?;
     accept_all(&mut desk);
-    let _ = desk.publish(rt);
+    let _ = desk.publish();
     Some(desk)
 }
 

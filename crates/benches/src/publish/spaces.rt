@@ -3,7 +3,6 @@ use crate::many::{RANGES, bind, bind_page, eight_nodes, map, policy};
 use numa_publish::Desk;
 use numa_requests::{Command, Limits};
 use std::alloc::Global;
-use std::sync::Wait;
 
 /// Accepts a policy of task 1, another one for each number.
 fn change(desk: &mut Desk, number: u64) {
@@ -31,11 +30,11 @@ fn spread(desk: &mut Desk, ranges: u64) {
 }
 
 /// A desk that has published `ranges` ranges.
-pub fn desk_of<R: Wait>(rt: &R, alloc: Global, ranges: u64) -> Option<Desk> {
+pub fn desk_of(alloc: Global, ranges: u64) -> Option<Desk> {
     let limits = Limits::new(65_536, 8, 4_000_000_000)?;
-    let mut desk = Desk::new(rt, alloc, eight_nodes(alloc)?, limits, 4).ok()?;
+    let mut desk = Desk::new(alloc, eight_nodes(alloc)?, limits, 4).ok()?;
     spread(&mut desk, ranges);
     change(&mut desk, 0);
-    let _ = desk.publish(rt);
+    let _ = desk.publish();
     Some(desk)
 }

@@ -18,7 +18,7 @@ fn machine_for(rt: &impl Abort, alloc: Global) -> Machine {
 
 /// A desk of that machine for two readers.
 fn open(rt: &(impl Wait + Abort), alloc: Global) -> Result<Desk, NoMemory> {
-    desk::open(rt, alloc, machine_for(rt, alloc), limits(), 2)
+    desk::open(alloc, machine_for(rt, alloc), limits(), 2)
 }
 
 /// What a desk shows: its space, the published version, and how many commands are pending.
@@ -43,11 +43,11 @@ fn accept(rt: &impl Abort, desk: &mut Desk, command: &Command) {
 /// Publishes, and again if a growth was refused, which changed nothing.
 fn publish(rt: &(impl Wait + Abort), desk: &mut Desk) {
     let before = all_shown(desk);
-    if desk::publish(desk, rt).is_ok() {
+    if desk::publish(desk).is_ok() {
         return;
     }
     same(rt, &all_shown(desk), &before);
-    assert!(rt; desk::publish(desk, rt).is_ok());
+    assert!(rt; desk::publish(desk).is_ok());
 }
 
 /// Accepts and publishes each command between the marks.
@@ -66,7 +66,7 @@ fn calls(rt: HostRuntime) {
     let mut desk = open(&rt, rt.alloc()).expect(&rt, "a desk");
     serve_all(&rt, rt.alloc(), &mut desk, &commands);
     let found = (desk.published(), desk.pending());
-    desk.end(&rt);
+    desk.end();
     same(&rt, &found, &(18, 0));
     drop(commands);
 }
@@ -75,14 +75,14 @@ fn calls(rt: HostRuntime) {
 fn opened(rt: &(impl Wait + Abort), alloc: Global) -> (u64, usize) {
     let machine = machine_for(rt, alloc);
     mark(rt, alloc);
-    let first = desk::open(rt, alloc, machine, limits(), 2);
+    let first = desk::open(alloc, machine, limits(), 2);
     mark(rt, alloc);
     let desk = match first {
         Ok(desk) => desk,
         Err(_) => open(rt, alloc).expect(rt, "a desk"),
     };
     let found = (desk.published(), desk.pending());
-    desk.end(rt);
+    desk.end();
     found
 }
 

@@ -170,7 +170,7 @@ fn run<K: DeskName + Send + Sync>(rt: &(impl Threads + Wait + Abort + Sync), des
     let shared = SharedDesk::<K>::new(desk);
     let reader = shared.reader(rt).expect(rt, "a place");
     let (last, counts) = look_beside(rt, &shared, reader);
-    shared.into_desk().end(rt);
+    shared.into_desk().end();
     judge(rt, last, counts);
 }
 

@@ -75,7 +75,7 @@ fn run_crew<R: Threads + Wait + Abort + Sync, G: Gate + Sync>(
     let mut workers = Workers::open(rt, alloc, &mut desk, frames, count);
     let answers = workers.run(rt, alloc, wanted, gate);
     drop(workers);
-    desk.end(rt);
+    desk.end();
     answers
 }
 

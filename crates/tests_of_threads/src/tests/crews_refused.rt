@@ -65,7 +65,7 @@ fn run(rt: HostRuntime) {
     let first = run_once(&rt, rt.alloc(), &mut workers, &wanted, &Open);
     let second = run_once(&rt, rt.alloc(), &mut workers, &wanted, &gate);
     drop(workers);
-    desk.end(&rt);
+    desk.end();
     judge(&rt, first, second);
     assert!(rt; gate.is_even());
 }

@@ -39,7 +39,7 @@ fn to_the_other_node_and_no_further(rt: HostRuntime) {
     placing.migrate_as(&rt, placed(17, 0, 0), 1, full);
     let none = Err(MigrateRefusal::NoSuchNode(placed(17, 0, 0)));
     placing.migrate_as(&rt, placed(17, 0, 0), 2, none);
-    desk.end(&rt);
+    desk.end();
     same(&rt, &placing.close(), &(1, 1, true));
 }
 
@@ -196,7 +196,7 @@ fn move_beside(
     workers.migrate(rt, &moves);
     let gate = Counting::new(rt, alloc, 7);
     let answers = workers.run(rt, alloc, &requests(rt, alloc, 7), &gate);
-    desk.end(rt);
+    desk.end();
     (moves.judge(), outcomes(&answers.expect(rt, "answers")))
 }
 

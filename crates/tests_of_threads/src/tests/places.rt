@@ -15,7 +15,7 @@ fn sixty_four_at_once(rt: HostRuntime) {
     let refused = desk.reader().err();
     drop(readers.pop());
     let again = desk.reader().ok().map(|reader| look(reader).1);
-    desk.end(&rt);
+    desk.end();
     same(&rt, &refused, &Some(NoReader));
     same(&rt, &again, &Some(Some((0, Err(PlaceRefusal::Unmapped)))));
 }

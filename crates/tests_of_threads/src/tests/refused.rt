@@ -43,9 +43,9 @@ fn shown_by(rt: &impl Abort, desk: &mut Desk) -> Shown {
 
 /// The version of a publish with memory, which ends the desk, and what a new reader sees of it.
 fn last(rt: &(impl Wait + Abort), mut desk: Desk) -> (Option<u64>, Option<Seen>) {
-    let later = desk.publish(rt).ok().map(|receipt| receipt.version());
+    let later = desk.publish().ok().map(|receipt| receipt.version());
     let newest = seen_on(rt, &mut desk);
-    desk.end(rt);
+    desk.end();
     (later, newest)
 }
 
@@ -62,7 +62,7 @@ fn judge(rt: &(impl Wait + Abort), mut desk: Desk, wanted: Shown, all: u64, row:
 /// A publish between two marks: its version.
 fn published(rt: &(impl Wait + Abort), alloc: Global, desk: &mut Desk) -> Option<u64> {
     mark(rt, alloc);
-    let answer = desk.publish(rt);
+    let answer = desk.publish();
     mark(rt, alloc);
     match answer {
         Ok(receipt) => Some(receipt.version()),

@@ -13,7 +13,7 @@ fn new_desk(rt: &(impl Wait + Abort), alloc: Global) -> Result<Desk, NoMemory> {
     let machine = machine_of(rt, alloc, 8);
     let limits = Limits::new(64, 8, 1_000).expect(rt, "limits");
     mark(rt, alloc);
-    let desk = Desk::new(rt, alloc, machine, limits, 2);
+    let desk = Desk::new(alloc, machine, limits, 2);
     mark(rt, alloc);
     desk
 }
@@ -22,7 +22,7 @@ fn new_desk(rt: &(impl Wait + Abort), alloc: Global) -> Result<Desk, NoMemory> {
 fn publish_and_end(rt: &(impl Wait + Abort), mut desk: Desk) {
     accept_both(rt, &mut desk);
     publish_as(rt, &mut desk, 2);
-    desk.end(rt);
+    desk.end();
 }
 
 #[test]
@@ -66,5 +66,5 @@ fn accept(rt: HostRuntime) {
     let mut desk = desk_for(&rt, rt.alloc(), 2);
     accept_map(&rt, rt.alloc(), &mut desk);
     publish_as(&rt, &mut desk, 1);
-    desk.end(&rt);
+    desk.end();
 }

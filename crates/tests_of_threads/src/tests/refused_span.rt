@@ -90,7 +90,7 @@ fn asked(rt: &(impl Wait + Abort), alloc: Global, way: Way) -> (Vec<Placement>, 
         Way::WithoutMemory => ask_without_memory(rt, alloc, &mut placing, &mut out),
     }
     let owned = placing.owns(&placed(16, 0, 0));
-    desk.end(rt);
+    desk.end();
     drop(placing);
     (out, owned)
 }

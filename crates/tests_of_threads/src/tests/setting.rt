@@ -33,7 +33,7 @@ pub fn desk_of(rt: &(impl Wait + Abort), alloc: Global, frames: u32, readers: u3
     requires few { readers ≤ 64 }
 {
     let machine = machine_of(rt, alloc, frames);
-    Desk::new(rt, alloc, machine, limits(rt), readers).expect(rt, "memory")
+    Desk::new(alloc, machine, limits(rt), readers).expect(rt, "memory")
 }
 
 /// A desk of two nodes with 8 frames each.
@@ -103,7 +103,7 @@ pub fn publish_as(rt: &(impl Wait + Abort), desk: &mut Desk, version: u64) -> Re
     ensures same { desk.new.desk ≡ desk.old.desk }
     ensures receipt { result.desk ≡ desk.new.desk }
 {
-    let receipt = desk.publish(rt).expect(rt, "memory");
+    let receipt = desk.publish().expect(rt, "memory");
     same(rt, &receipt.version(), &version);
     receipt
 }

@@ -2,14 +2,13 @@
 use crate::tests::setting::{desk_for, prefer, same};
 use numa_publish::Desk;
 use numa_requests::Command;
-use std::sync::Wait;
 
 /// How often a desk publishes, one command each time.
 const PUBLISHES: u64 = 1_000_000;
 
 /// Whether a command is accepted and published.
-fn is_published(rt: &impl Wait, desk: &mut Desk, command: &Command) -> bool {
-    desk.accept(command).is_ok() && desk.publish(rt).is_ok()
+fn is_published(desk: &mut Desk, command: &Command) -> bool {
+    desk.accept(command).is_ok() && desk.publish().is_ok()
 }
 
 #[test]
@@ -19,11 +18,11 @@ fn a_million_publishes(rt: HostRuntime) {
     let mut refused = 0u64;
     for turn in 0..PUBLISHES {
         let command = &commands[if turn % 2 == 0 { 0 } else { 1 }];
-        if !is_published(&rt, &mut desk, command) {
+        if !is_published(&mut desk, command) {
             refused = refused.saturating_add(1);
         }
     }
     let left = (desk.published(), desk.pending());
-    desk.end(&rt);
+    desk.end();
     same(&rt, &(refused, left), &(0, (PUBLISHES, 0)));
 }

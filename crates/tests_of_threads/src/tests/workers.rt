@@ -19,7 +19,7 @@ fn after_the_end(rt: HostRuntime) {
     let mut desk = desk(&rt, rt.alloc());
     let mut placing = Placing::open(&rt, rt.alloc(), &mut desk);
     placing.serve(&rt, on(16), Ok(placed(16, 0, 0)));
-    desk.end(&rt);
+    desk.end();
     placing.serve(&rt, on(17), Err(FaultRefusal::NoView));
     see_nothing(&rt, rt.alloc(), &mut placing);
     same(&rt, &placing.close(), &(1, 0, true));

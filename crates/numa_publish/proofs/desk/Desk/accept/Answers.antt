@@ -55,6 +55,7 @@ invariant_of-self-2 c = (
       c.reserve.ensures.items) (c.in_default-apply.ensures.applied.ok _ c.self.invariant.0.stands).1
       c.in_default-apply.ensures.applied.machine,
   c.self.invariant.1,
+  c.self.invariant.2,
 )
 
 pub returns : goal.returns

@@ -1,8 +1,6 @@
-use Rattle.std.proofs.Common.{ap, ◌∙◌, ◌≡◌}
+use Rattle.std.proofs.Common.{◌≡◌}
 use Rattle.std.specs.Arc.{arc_value}
-use Rattle.left_right.specs.Sides.{view as place_view}
 use Rattle.numa_compile.specs.Standing.{PlanStandsFor}
-use Rattle.numa_publish.specs.declared.issue.Shown.{Shown}
 use Rattle.numa_publish.specs.Batches.{history_of}
 use Rattle.numa_publish.proofs.Low.{span-judged}
 use Rattle.numa_publish.proofs.view.PlanView.counts.Goals as goal
@@ -10,11 +8,10 @@ use Rattle.numa_publish.proofs.view.PlanView.counts.Goals as goal
 pub returns-clause-stands : goal.returns-clause-stands
 returns-clause-stands c =
     let issue = c.deref-issue.result.now in
-    let is : issue ≡ arc_value c.self.inside.reading.part.value.issue = c.deref-issue.ensures
-    ∙ ap (λ (s : Shown). arc_value s.issue) c.get.ensures in
-    let stands : PlanStandsFor (place_view c.self.inside.reading.place).machine issue.plan
+    let is : issue ≡ arc_value c.self.inside.taker.shown.issue = c.deref-issue.ensures in
+    let stands : PlanStandsFor (arc_value c.self.inside.taker.shown.issue).machine issue.plan
     (history_of c.self.inside.past.front.log) =
-    rw (c.self.invariant.history_is, c.self.invariant.machine_is, ← is) issue.stands in
+    rw (c.self.invariant.history_is, ← is) issue.stands in
     let ok = c.in_ok-counts.ensures.ok in
     rw (← c.self.view_is) (span-judged _ issue.plan _ stands c.run_count.ensures.apart c.args.cpu
     c.args.first c.args.pages ok.0 ok.1)
