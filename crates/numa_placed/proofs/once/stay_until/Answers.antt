@@ -25,21 +25,6 @@ returns-then-not-may_take-clause-stay c p from to =
     ap (λ (spot : Spot). wants_of c.args.wants.now p spot) here
     ∙ c.may_take.ensures c.if-not-may_take.true p
 
-pub returns-in-Lies-clause-stay : goal.returns-in-Lies-clause-stay
-returns-in-Lies-clause-stay c p from to =
-    let nodes = c.args.places.now.nodes.items in
-    let runs = c.args.places.now.map.runs in
-    let page = c.args.page in
-    let is : p ≡ page = omega (arith, from, to) in
-    let here : spots_of c.args.places.now page ≡ c.in-Lies.spot =
-    spot-kept nodes runs page (c.requires.kept.whole page
-    (omega (arith, c.requires.rises, c.requires.within)))
-    ∙ ap (slot_spot nodes page) (c.same_until-slot.ensures.slots page (omega arith)
-    (omega (arith, c.same_until-slot.ensures.rises)) ∙ c.in-Lies.is) in
-    ap (λ (q : ℕ). wants_of c.args.wants.now q (spots_of c.args.places.now q)) is
-    ∙ ap (λ (spot : Spot). wants_of c.args.wants.now page spot) here
-    ∙ sym c.takes.ensures ∙ c.if-takes.false
-
 pub returns-in-InTurn-clause-stay : goal.returns-in-InTurn-clause-stay
 returns-in-InTurn-clause-stay c p from to =
     let nodes = c.args.places.now.nodes.items in
