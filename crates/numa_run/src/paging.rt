@@ -18,7 +18,7 @@ ghost use Rattle.numa_script.specs.declared.page_line.PageLine.{PageLine};
 use crate::running::{Running, Taken};
 use numa_huge::HugePages;
 use numa_maps::Resident;
-use numa_mask::{ListFault, NodeMask};
+use numa_mask::NodeMask;
 use numa_page_state::binding::page_count;
 use numa_page_state::huge::{
     follow_huge, has_huge_in, huge_move, huge_populated, is_huge_at, rest_small,
@@ -26,7 +26,7 @@ use numa_page_state::huge::{
 use numa_page_state::state::begins_starved;
 use numa_page_state::{PageState, Shift};
 use numa_requests::{HugeRefusal, MoveRefusal, PAGE_BYTES, PlacedRefusal};
-use numa_script::{PageLine, Reply, WordError};
+use numa_script::{PageLine, Reply};
 use numa_space::Space;
 use std::alloc::Global;
 
@@ -404,20 +404,10 @@ impl Running {
         self.populate_small(alloc, said)
     }
 
-    /// Carries out a line about pages, or tells what is wrong with its list. What `moved`, `room`
-    /// alone and a `populate` that isn't refused tell is still to be written.
+    /// Carries out a line about pages whose list is right. What `moved`, `room` alone and a
+    /// `populate` that isn't refused tell is still to be written.
     #[inline(never)]
-    pub(crate) fn page(&mut self, alloc: Global, said: &Result<PageLine, ListFault>) -> Taken
-        ensures { Takes self.old (Line.Pages said.now) result self.new }
-    {
-        match said {
-            Ok(line) => self.page_line(alloc, line),
-            Err(fault) => Taken::Reply(Reply::BadWord(WordError::List(*fault))),
-        }
-    }
-
-    /// Carries out such a line, whose list is right.
-    fn page_line(&mut self, alloc: Global, line: &PageLine) -> Taken
+    pub(crate) fn page(&mut self, alloc: Global, line: &PageLine) -> Taken
         ensures { Takes self.old (Line.Pages (Ok line.now)) result self.new }
     {
         match line {

@@ -422,7 +422,10 @@ impl Running {
             Line::Work(work) => Taken::Reply(self.work(*work)),
             Line::Question(question) => Taken::Question(*question),
             Line::Maps(task) => Taken::Maps(*task),
-            Line::Pages(said) => self.page(alloc, said),
+            Line::Pages(said) => match said {
+                Ok(line) => self.page(alloc, line),
+                Err(fault) => Taken::Reply(Reply::BadWord(WordError::List(*fault))),
+            },
             Line::Bind {
                 start,
                 length,

@@ -4,6 +4,7 @@ use Rattle.numa_run.specs.PageLines.{work_served}
 use Rattle.numa_script.specs.declared.reply.Reply.TheVariants as reply
 use Rattle.numa_script.specs.declared.line.Line.TheVariants as line
 use Rattle.numa_run.proofs.LineLemmas.{later_same, served_here}
+use Rattle.numa_run.proofs.PageChanges.{page-fault}
 use Rattle.numa_run.proofs.running.Running.take.Goals as goal
 
 pub returns-in-Silent : goal.returns-in-Silent
@@ -59,8 +60,12 @@ returns-in-Work c =
     (λ lack machine state. work_served lack machine state c.in-Work.work)
     c.work.ensures (λ lack state. refl))
 
-pub returns-in-Pages : goal.returns-in-Pages
-returns-in-Pages c = rw c.in-Pages.is c.page.ensures
+pub returns-in-Ok-said : goal.returns-in-Ok-said
+returns-in-Ok-said c = rw (c.in-Pages.is, c.in-Ok-said.is) c.page.ensures
+
+pub returns-in-Err-said : goal.returns-in-Err-said
+returns-in-Err-said c =
+    rw (c.in-Pages.is, c.in-Err-said.is) (page-fault c.args.self.now c.in-Err-said.fault)
 
 pub returns-in-Bind : goal.returns-in-Bind
 returns-in-Bind c =
