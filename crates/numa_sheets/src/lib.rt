@@ -1,6 +1,6 @@
 //! What answers are asked with and written with: touches, free pages and formats, texts that are
-//! written part by part, JSON objects and lists, the parts of pictures, and a watch on work that
-//! takes long.
+//! written part by part, JSON objects and lists, records of tables, the parts of pictures, and a
+//! watch on work that takes long.
 #![tactic(auto)]
 
 mod asked;
@@ -11,6 +11,7 @@ mod format;
 mod items;
 mod object;
 mod pictures;
+mod records;
 mod scale;
 mod version;
 mod watch;
@@ -23,6 +24,7 @@ pub use format::{DRAWN, Format, LISTED};
 pub use items::Items;
 pub use object::Object;
 pub use pictures::height_of;
+pub use records::Records;
 pub use scale::{Scale, share};
 pub use version::VERSION;
 pub use watch::Watch;

@@ -4,10 +4,9 @@ use crate::moments::{Moment, TakeRoute, moment_before, take_between};
 use crate::range_parts::{PageSpan, RangePart, RangesMet, busiest, routes_in};
 use crate::report::place_of;
 use crate::tallies::{AccessCounts, Route};
-use csv::{Writer, WriterBuilder};
 use itoa::Buffer;
 use numa_machine::Machine;
-use numa_sheets::Written;
+use numa_sheets::{Records, Written};
 use std::alloc::{AllocError, Global};
 
 /// The header record, and that of records by range.
@@ -23,31 +22,21 @@ enum Front<'a> {
     Range(PageSpan),
 }
 
-/// Records of a phase or a range, written one by one. After it ran out of memory no more are
-/// written.
+/// Records of a phase or a range.
 #[derive(Drop)]
-struct Records<'a> {
+struct RouteRecords<'a> {
     machine: &'a Machine,
     front: Front<'a>,
-    writer: Writer<Vec<u8>>,
-    lacks_memory: bool,
+    records: Records,
 }
 
-impl<'a> Records<'a> {
+impl<'a> RouteRecords<'a> {
     /// No records.
-    fn new(alloc: Global, machine: &'a Machine, front: Front<'a>) -> Records<'a> {
-        Records {
+    fn new(alloc: Global, machine: &'a Machine, front: Front<'a>) -> RouteRecords<'a> {
+        RouteRecords {
             machine,
             front,
-            writer: WriterBuilder::new().from_writer(Vec::new(alloc)),
-            lacks_memory: false,
-        }
-    }
-
-    /// Writes a record.
-    fn put_record(&mut self, record: &[&[u8]]) {
-        if !self.lacks_memory {
-            self.lacks_memory = self.writer.write_fields(record).is_err();
+            records: Records::new(alloc),
         }
     }
 
@@ -66,7 +55,7 @@ impl<'a> Records<'a> {
         let mut count = Buffer::new();
         let mut placed = Buffer::new();
         let mut exhausted = Buffer::new();
-        self.put_record(&[
+        self.records.put(&[
             first,
             second,
             number.format(cpu).as_bytes(),
@@ -97,17 +86,9 @@ impl<'a> Records<'a> {
             }
         }
     }
-
-    /// Appends the records to a text.
-    fn end(self, text: &mut Written) {
-        match self.writer.into_inner() {
-            Ok(part) if !self.lacks_memory => text.put(part.as_slice()),
-            _ => text.lack(),
-        }
-    }
 }
 
-impl TakeRoute for Records<'_> {
+impl TakeRoute for RouteRecords<'_> {
     fn take_route(&mut self, route: &Route, counts: &AccessCounts) {
         let Some((node, distance)) = place_of(self.machine, route.1, route.2) else {
             self.put(route, ["", ""], counts.accesses, [0, counts.faults]);
@@ -131,9 +112,9 @@ fn put_between(
         Some(phase) => phase,
         None => b"".as_slice(),
     };
-    let mut records = Records::new(text.alloc(), machine, Front::Phase(phase));
-    take_between(&mut records, before, after);
-    records.end(text);
+    let mut of_phase = RouteRecords::new(text.alloc(), machine, Front::Phase(phase));
+    take_between(&mut of_phase, before, after);
+    of_phase.records.end(text);
 }
 
 /// The records of each phase behind a header. Of that which no mark closes the text is empty.
@@ -158,11 +139,11 @@ fn put_part(
     span: PageSpan,
     routes: &[(Route, AccessCounts)],
 ) {
-    let mut records = Records::new(text.alloc(), machine, Front::Range(span));
+    let mut of_range = RouteRecords::new(text.alloc(), machine, Front::Range(span));
     for (route, counts) in routes {
-        records.take_route(route, counts);
+        of_range.take_route(route, counts);
     }
-    records.end(text);
+    of_range.records.end(text);
 }
 
 /// The records of each range behind a header, the busiest first.

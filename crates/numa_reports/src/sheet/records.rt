@@ -3,10 +3,8 @@
 
 use crate::sheet::fields::{PlacedPages, RangeRow, placed_of};
 use crate::sheet::nodes::NodePages;
-use csv::{Writer, WriterBuilder};
 use itoa::Buffer;
-use numa_sheets::Written;
-use std::alloc::Global;
+use numa_sheets::{Records, Written};
 
 /// Writes the header record.
 pub(crate) fn put_head(text: &mut Written) {
@@ -22,71 +20,39 @@ struct RowPrefix<'a> {
     all: &'a str,
 }
 
-/// Records that are written one by one. After it ran out of memory no more are written.
-#[derive(Drop)]
-struct Records {
-    writer: Writer<Vec<u8>>,
-    lacks_memory: bool,
+/// Writes the record of a node.
+fn put_node(records: &mut Records, front: &RowPrefix<'_>, node: &str, pages: u64) {
+    let mut count = Buffer::new();
+    records.put(&[
+        front.start.as_bytes(),
+        front.end.as_bytes(),
+        front.policy.as_bytes(),
+        front.all.as_bytes(),
+        node.as_bytes(),
+        count.format(pages).as_bytes(),
+    ]);
 }
 
-impl Records {
-    /// No records.
-    fn new(alloc: Global) -> Records {
-        Records {
-            writer: WriterBuilder::new().from_writer(Vec::new(alloc)),
-            lacks_memory: false,
-        }
+/// Writes the records of nodes.
+fn put_nodes(records: &mut Records, front: &RowPrefix<'_>, nodes: &[NodePages]) {
+    for one in nodes {
+        let mut number = Buffer::new();
+        put_node(records, front, number.format(one.node), one.pages);
     }
+}
 
-    /// Writes a record.
-    fn put_record(&mut self, record: &[&[u8]]) {
-        if !self.lacks_memory {
-            self.lacks_memory = self.writer.write_fields(record).is_err();
-        }
-    }
-
-    /// Writes the record of a node.
-    fn put(&mut self, front: &RowPrefix<'_>, node: &str, pages: u64) {
-        let mut count = Buffer::new();
-        self.put_record(&[
-            front.start.as_bytes(),
-            front.end.as_bytes(),
-            front.policy.as_bytes(),
-            front.all.as_bytes(),
-            node.as_bytes(),
-            count.format(pages).as_bytes(),
-        ]);
-    }
-
-    /// Writes the records of nodes.
-    fn put_nodes(&mut self, front: &RowPrefix<'_>, nodes: &[NodePages]) {
-        for one in nodes {
-            let mut number = Buffer::new();
-            self.put(front, number.format(one.node), one.pages);
-        }
-    }
-
-    /// Writes the records of pages.
-    fn put_placed(&mut self, front: &RowPrefix<'_>, placed: PlacedPages<'_>) {
-        self.put_nodes(front, placed.nodes);
-        if let Some(pages) = placed.lacking() {
-            self.put(front, "", pages);
-        }
-    }
-
-    /// Appends the records to a text.
-    fn end(self, text: &mut Written) {
-        match self.writer.into_inner() {
-            Ok(part) if !self.lacks_memory => text.put(part.as_slice()),
-            _ => text.lack(),
-        }
+/// Writes the records of pages.
+fn put_placed(records: &mut Records, front: &RowPrefix<'_>, placed: PlacedPages<'_>) {
+    put_nodes(records, front, placed.nodes);
+    if let Some(pages) = placed.lacking() {
+        put_node(records, front, "", pages);
     }
 }
 
 /// Writes the records of pages.
 fn put_all(text: &mut Written, front: &RowPrefix<'_>, placed: PlacedPages<'_>) {
     let mut records = Records::new(text.alloc());
-    records.put_placed(front, placed);
+    put_placed(&mut records, front, placed);
     records.end(text);
 }
 
