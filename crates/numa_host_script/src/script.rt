@@ -112,19 +112,8 @@ impl HostScript {
         if let Some(_) = said.process {
             return HostTaken::Reply(Reply::BadWords);
         }
-        HostTaken::Own(self.take_own(alloc, said))
-    }
-
-    /// Carries out a line of one process.
-    #[inline(always)]
-    fn take_own(&mut self, alloc: Global, said: &ScriptLine<'_>) -> Taken
-        requires begin { is_begin said.now ≡ false }
-        requires unnamed { said.now.process ≡ None }
-        requires unhosted { self.old.host ≡ None }
-        ensures { SessionTakes self.old said.now (HostTaken.Own result) self.new }
-    {
         self.limits = limits_after(&self.script, self.limits, &said.line);
-        self.script.take(alloc, &said.line)
+        HostTaken::Own(self.script.take(alloc, &said.line))
     }
 
     /// Whether a line may be another than one of one process: it is `host` or names a process, or
@@ -379,7 +368,8 @@ impl HostScript {
         if self.is_wider(said) {
             return self.serve_wider(alloc, said, output);
         }
-        let taken = self.take_own(alloc, said);
+        self.limits = limits_after(&self.script, self.limits, &said.line);
+        let taken = self.script.take(alloc, &said.line);
         self.write_own(alloc, taken, output)
     }
 

@@ -1,7 +1,9 @@
+use Rattle.std.proofs.Common.{None}
 use Rattle.numa_run.specs.declared.running.Taken.TheVariants as own
 use Rattle.numa_host_script.specs.declared.taking.HostTaken.TheVariants as taken
 use Rattle.numa_host_script.specs.Standing.{unboxed}
 use Rattle.numa_host_script.proofs.Left.{asked-left}
+use Rattle.numa_host_script.proofs.Taken.{taken-alone}
 use Rattle.numa_host_script.proofs.Written.{served-line}
 use Rattle.numa_host_script.proofs.script.HostScript.serve_line.Goals as goal
 
@@ -15,16 +17,15 @@ returns-in-Some g c = λ session stands.
     session
     c.args.said.now c.in-Some.question c.in-Some.ensures stands) c.write_own.ensures
 
-pub take_own-taken-requires : goal.take_own-taken-requires
-take_own-taken-requires g c =
-    let own = c.is_wider.ensures c.if-is_wider.false in
-    record { begin = own.0; unnamed = own.1; unhosted = own.2 }
-
 pub returns : goal.returns
-returns g c = λ session stands.
+returns g c =
+    let own = c.is_wider.ensures c.if-is_wider.false in
+    rw own.2
+    (λ session stands.
     served-line g.W.Write.contents c.args.output.now c.write_own-2.new.output
-    c.take_own-taken.new.self.script c.take_own-taken.new.self.limits
-    (unboxed c.take_own-taken.new.self.host) c.write_own-2.new.self.script
-    c.write_own-2.new.self.limits
-    (unboxed c.write_own-2.new.self.host) c.args.said.now (taken.Own c.take_own-taken.result)
-    c.write_own-2.result session (c.take_own-taken.ensures session stands) c.write_own-2.ensures
+    c.take-taken.new.self c.limits_after-self.result None c.write_own-2.new.self.script
+    c.write_own-2.new.self.limits (unboxed c.write_own-2.new.self.host) c.args.said.now
+    (taken.Own c.take-taken.result) c.write_own-2.result session
+    (taken-alone c.args.self.now.script c.args.self.now.limits c.args.said.now
+    c.take-taken.result c.take-taken.new.self c.limits_after-self.result session own.0 own.1
+    c.limits_after-self.ensures c.take-taken.ensures stands) c.write_own-2.ensures)

@@ -1,7 +1,7 @@
 use Rattle.std.proofs.Common.{◌∙◌, sym, subst}
 use Rattle.numa_host_script.specs.declared.running.RunningHost.{RunningHost}
 use Rattle.numa_host_script.specs.Standing.{Takes, unboxed}
-use Rattle.numa_host_script.proofs.Taken.{taken-begin, taken-foreign, taken-hosted}
+use Rattle.numa_host_script.proofs.Taken.{taken-alone, taken-begin, taken-foreign, taken-hosted}
 use Rattle.numa_host_script.proofs.script.HostScript.take.Goals as goal
 
 pub returns-then-is_begin : goal.returns-then-is_begin
@@ -28,9 +28,11 @@ returns-in-Some-process c =
     c.in-Some-process.field-0 session (sym c.is_begin.ensures ∙ c.if-is_begin.false)
     c.in-Some-process.is stands)
 
-pub take_own-requires : goal.take_own-requires
-take_own-requires c = record {
-  begin = sym c.is_begin.ensures ∙ c.if-is_begin.false;
-  unnamed = c.in_default-process.is;
-  unhosted = c.in_default.is;
-}
+pub returns : goal.returns
+returns c =
+    rw c.in_default.is
+    (λ session stands.
+    taken-alone c.args.self.now.script c.args.self.now.limits c.args.said.now c.take-2.result
+    c.take-2.new.self c.limits_after-self.result session
+    (sym c.is_begin.ensures ∙ c.if-is_begin.false) c.in_default-process.is
+    c.limits_after-self.ensures c.take-2.ensures stands)
