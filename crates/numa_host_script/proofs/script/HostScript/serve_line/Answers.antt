@@ -1,9 +1,12 @@
-use Rattle.std.proofs.Common.{None}
+use Rattle.std.proofs.Common.{Option, subst, sym}
+use Rattle.std.specs.Global.{Global}
+use Rattle.std.specs.Prelude.{Box}
 use Rattle.numa_run.specs.declared.running.Taken.TheVariants as own
 use Rattle.numa_host_script.specs.declared.taking.HostTaken.TheVariants as taken
-use Rattle.numa_host_script.specs.Standing.{unboxed}
+use Rattle.numa_host_script.specs.Standing.{StandsIn, unboxed}
+use Rattle.numa_host_script.specs.declared.running.RunningHost.{RunningHost}
 use Rattle.numa_host_script.proofs.Left.{asked-left}
-use Rattle.numa_host_script.proofs.Taken.{taken-alone}
+use Rattle.numa_host_script.proofs.Taken.{TakesAt, taken-alone}
 use Rattle.numa_host_script.proofs.Written.{served-line}
 use Rattle.numa_host_script.proofs.script.HostScript.serve_line.Goals as goal
 
@@ -18,14 +21,19 @@ returns-in-Some g c = λ session stands.
     c.args.said.now c.in-Some.question c.in-Some.ensures stands) c.write_own.ensures
 
 pub returns : goal.returns
-returns g c =
+returns g c = λ session stands.
     let own = c.is_wider.ensures c.if-is_wider.false in
-    rw own.2
-    (λ session stands.
-    served-line g.W.Write.contents c.args.output.now c.write_own-2.new.output
-    c.take-taken.new.self c.limits_after-self.result None c.write_own-2.new.self.script
-    c.write_own-2.new.self.limits (unboxed c.write_own-2.new.self.host) c.args.said.now
-    (taken.Own c.take-taken.result) c.write_own-2.result session
-    (taken-alone c.args.self.now.script c.args.self.now.limits c.args.said.now
-    c.take-taken.result c.take-taken.new.self c.limits_after-self.result session own.0 own.1
-    c.limits_after-self.ensures c.take-taken.ensures stands) c.write_own-2.ensures)
+    let script = c.args.self.now.script in
+    let limits = c.args.self.now.limits in
+    let said = c.args.said.now in
+    let mid = c.take-taken.new.self in
+    let mid_limits = c.limits_after-self.result in
+    let took = subst (λ (host : Option (Box RunningHost Global)).
+    StandsIn script limits (unboxed host) session → TakesAt script limits said
+    (taken.Own c.take-taken.result) mid mid_limits (unboxed host) session) (sym own.2)
+    (taken-alone script limits said c.take-taken.result mid mid_limits session own.0 own.1
+    c.limits_after-self.ensures c.take-taken.ensures) stands in
+    served-line g.W.Write.contents c.args.output.now c.write_own-2.new.output mid mid_limits
+    (unboxed c.args.self.now.host) c.write_own-2.new.self.script c.write_own-2.new.self.limits
+    (unboxed c.write_own-2.new.self.host) said (taken.Own c.take-taken.result)
+    c.write_own-2.result session took c.write_own-2.ensures
