@@ -143,10 +143,10 @@ struct Asked<S> {
 /// Replays a trace in a space by its plan, and in another, if there is one.
 fn replayed_by<S: Read + Drop>(
     alloc: Global,
-    planned: ByBoth<Planned<'_>>,
+    first: Planned<'_>,
+    other: Option<Planned<'_>>,
     asked: Asked<S>,
 ) -> Result<Replayed, Halt> {
-    let ByBoth { first, other } = planned;
     let Asked {
         process,
         trace,
@@ -182,10 +182,10 @@ fn plans_of(
 
 /// Replays a trace in a space by the plan of all accepted commands, and in another space, if there
 /// is one.
-fn replayed_in<'a, S: Read + Drop>(
+fn replayed_in<S: Read + Drop>(
     alloc: Global,
-    own: Unplanned<'a>,
-    other: Option<Unplanned<'a>>,
+    own: Unplanned<'_>,
+    other: Option<Unplanned<'_>>,
     asked: Asked<S>,
 ) -> Result<Replayed, Halt> {
     let plans = match plans_of(alloc, own, other) {
@@ -195,14 +195,38 @@ fn replayed_in<'a, S: Read + Drop>(
             return Err(halt);
         }
     };
-    let planned = ByBoth {
-        first: own.by(&plans.first),
-        other: match (other, &plans.other) {
-            (Some(other), Some(plan)) => Some(other.by(plan)),
-            _ => None,
-        },
+    let Unplanned {
+        space,
+        member,
+        ground,
+    } = own;
+    let first = Planned {
+        space,
+        member,
+        plan: &plans.first,
+        ground,
     };
-    let replayed = replayed_by(alloc, planned, asked);
+    let beside = match (other, &plans.other) {
+        (
+            Some(
+                Unplanned {
+                    space,
+                    member,
+                    ground,
+                },
+            ),
+            Some(plan),
+        ) => {
+            Some(Planned {
+                space,
+                member,
+                plan,
+                ground,
+            })
+        }
+        _ => None,
+    };
+    let replayed = replayed_by(alloc, first, beside, asked);
     drop(plans);
     replayed
 }

@@ -46,18 +46,6 @@ pub(crate) struct Unplanned<'a> {
     pub(crate) ground: Ground<'a>,
 }
 
-impl<'a> Unplanned<'a> {
-    /// The same with its plan.
-    pub(crate) fn by(self, plan: &'a Plan) -> Planned<'a> {
-        Planned {
-            space: self.space,
-            member: self.member,
-            plan,
-            ground: self.ground,
-        }
-    }
-}
-
 /// The one space of a stage, if it is one.
 pub(crate) fn space_on(stage: Option<Stage<'_>>) -> Option<Unplanned<'_>> {
     let stage = stage?;
