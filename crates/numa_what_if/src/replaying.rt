@@ -6,7 +6,6 @@ use crate::stage::{
 use numa_answers::{About, add_answer, shown_as, told_of};
 use numa_host::{Host, Process};
 use numa_lines::{RunFault, TakeLine};
-use numa_plan::Plan;
 use numa_reports::ByProcess;
 use numa_sheets::Format;
 use numa_space::Space;
@@ -38,21 +37,6 @@ impl<T: TakeLine<()>> TakeLine<()> for ByBoth<T> {
 
     fn hand_over(&mut self, _output: &mut ()) -> Result<(), RunFault> {
         Ok(())
-    }
-}
-
-/// Two of one kind, or the first alone.
-fn both_of<T: Drop>(first: T, other: Option<Result<T, Halt>>) -> Result<ByBoth<T>, Halt> {
-    match other {
-        Some(Ok(other)) => Ok(ByBoth {
-            first,
-            other: Some(other),
-        }),
-        Some(Err(halt)) => {
-            drop(first);
-            Err(halt)
-        }
-        None => Ok(ByBoth { first, other: None }),
     }
 }
 
@@ -124,40 +108,37 @@ fn both_begun<'a>(
     by_range: bool,
 ) -> Result<ByBoth<Replaying<PlanReplay<'a>>>, Halt> {
     let first = begun_in(alloc, planned, process, by_range)?;
-    let other = match other {
-        Some(other) => Some(begun_in(alloc, other, process, by_range)),
-        None => None,
+    let Some(other) = other else {
+        return Ok(ByBoth { first, other: None });
     };
-    both_of(first, other)
+    match begun_in(alloc, other, process, by_range) {
+        Ok(other) => Ok(ByBoth {
+            first,
+            other: Some(other),
+        }),
+        Err(halt) => {
+            drop(first);
+            Err(halt)
+        }
+    }
 }
 
-/// A trace, and how it is replayed. Of the one process of a host with this number, if there is one,
-/// what others do is left out.
-#[derive(Drop)]
-struct Asked<S> {
+/// Replays a trace in a space by its plan, and in another, if there is one. The space is that of a
+/// host's process with this number, if there is one: what others do is left out.
+fn replayed_by<S: Read + Drop>(
+    alloc: Global,
+    planned: Planned<'_>,
+    other: Option<Planned<'_>>,
     process: Option<u32>,
     trace: Vec<(String, S)>,
     form: ReplayForm,
-}
-
-/// Replays a trace in a space by its plan, and in another, if there is one.
-fn replayed_by<S: Read + Drop>(
-    alloc: Global,
-    first: Planned<'_>,
-    other: Option<Planned<'_>>,
-    asked: Asked<S>,
 ) -> Result<Replayed, Halt> {
-    let Asked {
-        process,
-        trace,
-        form,
-    } = asked;
-    let begun = both_begun(alloc, first, other, process, form.by_range);
+    let begun = both_begun(alloc, planned, other, process, form.by_range);
     let both = read_whole(alloc, begun, trace)?;
-    let text = met(alloc, first, &both.first, form);
+    let text = met(alloc, planned, &both.first, form);
     let is_other = match (other, &both.other) {
         (Some(other), Some(replaying)) => {
-            let own = met(alloc, first, &both.first, form.with(Format::Text));
+            let own = met(alloc, planned, &both.first, form.with(Format::Text));
             differ(own, met(alloc, other, replaying, form.with(Format::Text)))
         }
         _ => false,
@@ -166,18 +147,41 @@ fn replayed_by<S: Read + Drop>(
     replayed_as(text, is_other)
 }
 
-/// The plans of all accepted commands of a space, and of another, if there is one.
-fn plans_of(
+/// Replays a trace in a space by its plan, and in another space, if there is one.
+fn replayed_beside<S: Read + Drop>(
     alloc: Global,
-    own: Unplanned<'_>,
+    planned: Planned<'_>,
     other: Option<Unplanned<'_>>,
-) -> Result<ByBoth<Plan>, Halt> {
-    let first = plan_of(alloc, own.space)?;
-    let other = match other {
-        Some(other) => Some(plan_of(alloc, other.space)),
-        None => None,
+    process: Option<u32>,
+    trace: Vec<(String, S)>,
+    form: ReplayForm,
+) -> Result<Replayed, Halt> {
+    let Some(
+        Unplanned {
+            space,
+            member,
+            ground,
+        },
+    ) = other
+    else {
+        return replayed_by(alloc, planned, None, process, trace, form);
     };
-    both_of(first, other)
+    let plan = match plan_of(alloc, space) {
+        Ok(plan) => plan,
+        Err(halt) => {
+            drop(trace);
+            return Err(halt);
+        }
+    };
+    let other = Planned {
+        space,
+        member,
+        plan: &plan,
+        ground,
+    };
+    let replayed = replayed_by(alloc, planned, Some(other), process, trace, form);
+    drop(plan);
+    replayed
 }
 
 /// Replays a trace in a space by the plan of all accepted commands, and in another space, if there
@@ -186,48 +190,30 @@ fn replayed_in<S: Read + Drop>(
     alloc: Global,
     own: Unplanned<'_>,
     other: Option<Unplanned<'_>>,
-    asked: Asked<S>,
+    process: Option<u32>,
+    trace: Vec<(String, S)>,
+    form: ReplayForm,
 ) -> Result<Replayed, Halt> {
-    let plans = match plans_of(alloc, own, other) {
-        Ok(plans) => plans,
-        Err(halt) => {
-            drop(asked);
-            return Err(halt);
-        }
-    };
     let Unplanned {
         space,
         member,
         ground,
     } = own;
-    let first = Planned {
+    let plan = match plan_of(alloc, space) {
+        Ok(plan) => plan,
+        Err(halt) => {
+            drop(trace);
+            return Err(halt);
+        }
+    };
+    let planned = Planned {
         space,
         member,
-        plan: &plans.first,
+        plan: &plan,
         ground,
     };
-    let beside = match (other, &plans.other) {
-        (
-            Some(
-                Unplanned {
-                    space,
-                    member,
-                    ground,
-                },
-            ),
-            Some(plan),
-        ) => {
-            Some(Planned {
-                space,
-                member,
-                plan,
-                ground,
-            })
-        }
-        _ => None,
-    };
-    let replayed = replayed_by(alloc, first, beside, asked);
-    drop(plans);
+    let replayed = replayed_beside(alloc, planned, other, process, trace, form);
+    drop(plan);
     replayed
 }
 
@@ -372,11 +358,19 @@ fn both_hosts_begun(
     ground: Ground<'_>,
 ) -> Result<ByBoth<Replaying<HostTrace>>, Halt> {
     let first = begun(alloc, host, ground)?;
-    let other = match other {
-        Some(other) => Some(begun(alloc, other, ground)),
-        None => None,
+    let Some(other) = other else {
+        return Ok(ByBoth { first, other: None });
     };
-    both_of(first, other)
+    match begun(alloc, other, ground) {
+        Ok(other) => Ok(ByBoth {
+            first,
+            other: Some(other),
+        }),
+        Err(halt) => {
+            drop(first);
+            Err(halt)
+        }
+    }
 }
 
 /// Replays a trace whose lines name processes of a host, each by its own plan, on frames that all
@@ -435,12 +429,7 @@ pub fn replayed_of<S: Read + Drop>(
                 member,
                 ground,
             };
-            let asked = Asked {
-                process,
-                trace,
-                form,
-            };
-            replayed_in(alloc, own, space_on(other), asked)
+            replayed_in(alloc, own, space_on(other), process, trace, form)
         }
         Subject::Each(host) => {
             if form.by_range {
@@ -469,11 +458,6 @@ pub fn replay_space<S: Read + Drop>(
         member: None,
         ground: FRAMES,
     };
-    let asked = Asked {
-        process: None,
-        trace,
-        form: ReplayForm::plain(format),
-    };
-    let replayed = replayed_in(alloc, own, None, asked)?;
+    let replayed = replayed_in(alloc, own, None, None, trace, ReplayForm::plain(format))?;
     Ok(replayed.text)
 }
