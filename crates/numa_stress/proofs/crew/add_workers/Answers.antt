@@ -20,12 +20,13 @@ loop-preserved g c =
     let items : c.push.new.self.items ≡ before ++ w ∷ [] =
     subst (λ (pushed : Bool). c.push.new.self.items
     ≡ (if pushed then before ++ w ∷ [] else before)) (sym c.in_ok-ok.ensures.variant)
-    c.push.ensures.items in
-    (c.split.ensures.same.0 ∙ c.loop.invariant.0,
-    subst (All is_of) (sym items)
-    (All-append is_of before (w ∷ []) c.loop.invariant.1
-    (All-cons is_of w []
-    (ap (λ (seat : PoolSeat). seat.table) c.in_ok-worker.ensures
-    ∙ (value-of c.split.result c.in_ok-other.other _ c.in_ok-other.ensures.value
-    c.split.ensures.fresh).0)
-    (All-nil is_of))))
+    c.push.ensures.items in (
+      c.split.ensures.same.0 ∙ c.loop.invariant.0,
+      subst (All is_of) (sym items)
+          (All-append is_of before (w ∷ []) c.loop.invariant.1
+          (All-cons is_of w []
+          (ap (λ (seat : PoolSeat). seat.table) c.in_ok-worker.ensures
+          ∙ (value-of c.split.result c.in_ok-other.other _ c.in_ok-other.ensures.value
+          c.split.ensures.fresh).0)
+          (All-nil is_of))),
+    )
