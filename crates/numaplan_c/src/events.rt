@@ -18,9 +18,7 @@ use crate::keeping::{if_open, or_return};
 use crate::nodes::NpNodes;
 use numa_machine::{Frame, PageSize};
 use numa_mask::read_list;
-use numa_mode::PolicySpec;
 use numa_requests::{Command, CoreRefusal, CoreReply, Event, Request};
-use numa_script::WordError;
 use numa_script::policy::read_policy;
 use numaplan_handles::CoreHandle;
 use std::alloc::Global;
@@ -85,20 +83,19 @@ pub extern "C" fn np_core_unmap(
     accept!(alloc, core => Unmap { start, length })
 }
 
-/// Sets the policy of a span's pages, as it was read.
-fn bind(
-    alloc: Global,
-    core: &mut CoreHandle,
-    start: u64,
-    length: u64,
-    said: Result<PolicySpec, WordError>,
-) -> u32
-    ensures { AnswersRead (bound_spec (rules_in (core_in core.old)) length said) word_code
-        (λ spec. Command.Mbind start length spec) (core_in core.old) result (core_in core.new) }
-{
-    let rules = core_rules(alloc, core);
-    let spec = or_return!(bound_spec(rules, length, said), word_code);
-    accept!(alloc, core => Mbind { start, length, spec })
+/// Sets the policy of a span's pages, as it was read. (No function, so that a policy comes to the
+/// space by few calls.)
+macro_rules! bind {
+    ($alloc:expr, $core:expr => $start:ident, $length:ident, $said:expr) => {{
+        let rules = core_rules($alloc, $core);
+        let spec = or_return!(bound_spec(rules, $length, $said), word_code);
+        let command = Command::Mbind {
+            start: $start,
+            length: $length,
+            spec,
+        };
+        if_open!($core.step($alloc, Event::Accept(command)), answer => answer_code(&answer))
+    }};
 }
 
 /// Sets the policy of a span's pages.
@@ -114,7 +111,7 @@ pub extern "C" fn np_core_mbind(
         word_code (λ spec. Command.Mbind start length spec) (core_in core.old) result
         (core_in core.new) }
 {
-    bind(alloc, core, start, length, read_policy(policy))
+    bind!(alloc, core => start, length, read_policy(policy))
 }
 
 /// Sets the policy of a span's pages, by a mode word and a set of nodes.
@@ -131,7 +128,7 @@ pub extern "C" fn np_core_mbind_by(
         word_code (λ spec. Command.Mbind start length spec) (core_in core.old) result
         (core_in core.new) }
 {
-    bind(alloc, core, start, length, spec_by(mode, nodes))
+    bind!(alloc, core => start, length, spec_by(mode, nodes))
 }
 
 /// Sets the policy of a task.
