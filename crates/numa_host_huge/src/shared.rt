@@ -178,7 +178,17 @@ impl HostHuge {
         self.pools.resize(nodes, allowed, count);
     }
 
-    /// Makes a node of a machine of `nodes` nodes have `count` lasting pages.
+    /// What a mapping of so many pages leaves that is refused for lack of them.
+    pub fn refuse(&mut self, pages: u64)
+        ensures { (at : Sharing) → HugeLies self.old at
+            → HugeLies self.new (with_pools (refusing at.pools pages) at) }
+    {
+        self.pools.keep();
+        self.pools.refuse(pages);
+        self.pools.keep();
+    }
+
+    /// Makes a node have `count` lasting pages; the host's machine has `nodes` nodes.
     ///
     /// # Errors
     /// As [`Pools::resize_node`](numa_pools::Pools::resize_node). Then nothing has changed.
@@ -190,23 +200,13 @@ impl HostHuge {
         count: u64,
     ) -> Result<(), PoolRefusal>
         requires { count < 2 ^ 63 }
-        ensures refusal { result_err result ≡ node_refusal nodes self.old.pools node count }
         ensures resized { (at : Sharing) → HugeLies self.old at → OnOk result (HugeLies self.new
             (with_pools (resized_node node allowed.now count at.pools) at)) }
+        ensures refusal { result_err result ≡ node_refusal nodes self.old.pools node count }
         ensures unchanged { OnErr result (self.new ≡ self.old) }
     {
         self.pools.keep();
         self.pools.resize_node(nodes, node, allowed, count)
-    }
-
-    /// What a mapping of so many pages leaves that is refused for lack of them.
-    pub fn refuse(&mut self, pages: u64)
-        ensures { (at : Sharing) → HugeLies self.old at
-            → HugeLies self.new (with_pools (refusing at.pools pages) at) }
-    {
-        self.pools.keep();
-        self.pools.refuse(pages);
-        self.pools.keep();
     }
 
     // ---- processes come and go
