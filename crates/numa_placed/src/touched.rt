@@ -340,53 +340,9 @@ pub(crate) fn touch_pages(
     Ok(())
 }
 
-/// Sends the pages of a span that are to go on a copy, so that nothing has changed if memory runs
-/// out.
-fn touch_copy(
-    places: &mut Places,
-    space: &Space,
-    first: u64,
-    pages: u64,
-    wants: &Wants<'_>,
-    touch: FaultingTask,
-    rooms: &mut Rooms,
-) -> Result<Bound, PlacedRefusal>
-    requires within { first + pages ≤ 2 ^ 35 }
-    requires stored { IsStored places.old }
-    ensures stored { IsStored places.new }
-    ensures bound { (room : ℕ → ℕ) → AreRooms rooms.old room → IfOk result (IsBound
-        (asked_by space.now wants.now first pages touch.task touch.cpu) (spots_of places.old) room
-        (spots_of places.new) rooms.new) }
-    ensures lack { (room : ℕ → ℕ) → AreRooms rooms.old room → IfErr result (IsLack (bound_spots
-        (asked_by space.now wants.now first pages touch.task touch.cpu) (spots_of places.old)
-        room)) }
-    ensures unchanged { OnErr result (places.new ≡ places.old) }
-    ensures kept_rooms { OnErr result (rooms.new ≡ rooms.old) }
-{
-    let Ok(mut next) = lean_copy(places) else {
-        return Err(PlacedRefusal::NoMemory);
-    };
-    let told = Bound { moved: 0, left: 0 };
-    let mut walk = Walk {
-        rooms: *rooms,
-        told,
-    };
-    let end = first + pages;
-    let Ok(()) = touch_pages(&mut next, space, first, end, wants, touch, &mut walk) else {
-        let_go_places(next);
-        return Err(PlacedRefusal::NoMemory);
-    };
-    match put_places(places, next) {
-        Ok(()) => {
-            *rooms = walk.rooms;
-            Ok(walk.told)
-        }
-        Err(lack) => Err(lack),
-    }
-}
-
 /// Sends the pages of a span that are to go, each to the first node of its list that has room.
-/// If that is one edit, it is done where they lie, and else on a copy.
+/// If that is one edit, it is done where they lie, and else on a copy, so that nothing has changed
+/// if memory runs out.
 pub(crate) fn touch_span(
     places: &mut Places,
     space: &Space,
@@ -408,8 +364,27 @@ pub(crate) fn touch_span(
     ensures unchanged { OnErr result (places.new ≡ places.old) }
     ensures kept_rooms { OnErr result (rooms.new ≡ rooms.old) }
 {
-    if let Some(once) = once_in(places, space, first, first + pages, wants, touch, rooms) {
+    let end = first + pages;
+    if let Some(once) = once_in(places, space, first, end, wants, touch, rooms) {
         return send_once(places, once, rooms);
     }
-    touch_copy(places, space, first, pages, wants, touch, rooms)
+    let Ok(mut next) = lean_copy(places) else {
+        return Err(PlacedRefusal::NoMemory);
+    };
+    let told = Bound { moved: 0, left: 0 };
+    let mut walk = Walk {
+        rooms: *rooms,
+        told,
+    };
+    let Ok(()) = touch_pages(&mut next, space, first, end, wants, touch, &mut walk) else {
+        let_go_places(next);
+        return Err(PlacedRefusal::NoMemory);
+    };
+    match put_places(places, next) {
+        Ok(()) => {
+            *rooms = walk.rooms;
+            Ok(walk.told)
+        }
+        Err(lack) => Err(lack),
+    }
 }
