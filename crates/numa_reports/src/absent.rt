@@ -66,15 +66,24 @@ pub(crate) fn fill_there(
     Ok(())
 }
 
+/// Adds counts by node to others.
+pub(crate) fn add_counts(all: &mut [u64; 256], counts: &[u64; 256])
+    ensures { (node : ℕ) → node < 256
+        → slice_index all.old node + slice_index counts.now node < 2 ^ 64
+        → slice_index all.new node ≡ slice_index all.old node + slice_index counts.now node }
+{
+    for node in 0..256 {
+        all[node] = all[node].saturating_add(counts[node]);
+    }
+}
+
 /// The sum of counts by node.
 pub(crate) fn both_of(ones: &[u64; 256], others: &[u64; 256]) -> [u64; 256]
     ensures { (node : ℕ) → node < 256
         → slice_index ones.now node + slice_index others.now node < 2 ^ 64
         → slice_index result node ≡ slice_index ones.now node + slice_index others.now node }
 {
-    let mut counts = [0u64; 256];
-    for node in 0..256 {
-        counts[node] = ones[node].saturating_add(others[node]);
-    }
+    let mut counts = *ones;
+    add_counts(&mut counts, others);
     counts
 }

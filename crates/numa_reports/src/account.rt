@@ -2,7 +2,7 @@
 ghost use Rattle.std.specs.Prelude.{◌≡◌, ◌^◌, replicate};
 ghost use Rattle.numa_reports.specs.Filled.{with_named};
 
-use crate::absent::both_of;
+use crate::absent::add_counts;
 use crate::filling::free_from;
 use numa_sheets::FreePages;
 
@@ -37,7 +37,7 @@ impl Account {
     pub(crate) fn count(&mut self, taken: &[u64; 256], pages: u64)
         ensures { self.new.free ≡ self.old.free }
     {
-        self.taken = both_of(&self.taken, taken);
+        add_counts(&mut self.taken, taken);
         self.pages = self.pages.saturating_add(pages);
     }
 }

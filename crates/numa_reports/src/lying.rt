@@ -103,7 +103,31 @@ fn count_lying(
     Ok(counts)
 }
 
-/// The same of a range.
+/// Counts the pages of a range where they lie. (Apart, so that the counts that it makes are zeroed
+/// only where pages are there.)
+#[inline(never)]
+fn count_placed(
+    asked: PredictionRequest<'_>,
+    range: &Run<RangeRecord>,
+    counts: &mut [u64; 256],
+) -> Result<(), PlaceRefusal>
+    requires { range.now.first + range.now.pages < 2 ^ 64 }
+    ensures counts { OnOk result ((node : ℕ) → node < 256 → slice_index counts.new node
+        ≡ planned_pages asked.entry.plan.now (spots_in asked.entry.placed)
+        asked.entry.touch.task range.now.first range.now.pages asked.entry.touch.cpu node) }
+    ensures err { IfErr result (RefusesSpan asked.entry.plan.now range.now.first
+        range.now.pages asked.entry.touch.cpu) }
+{
+    match count_lying(asked, range.first, range.pages) {
+        Ok(found) => {
+            *counts = found;
+            Ok(())
+        }
+        Err(refusal) => Err(refusal),
+    }
+}
+
+/// The number of pages of a range that lie on each node.
 pub(crate) fn count_there(
     asked: PredictionRequest<'_>,
     range: &Run<RangeRecord>,
@@ -117,14 +141,8 @@ pub(crate) fn count_there(
     ensures err { IfErr result (RefusesSpan asked.entry.plan.now range.now.first
         range.now.pages asked.entry.touch.cpu) }
 {
-    let Some(_) = asked.placed else {
-        return count_range(asked.plan, asked.touch, range, counts);
-    };
-    match count_lying(asked, range.first, range.pages) {
-        Ok(found) => {
-            *counts = found;
-            Ok(())
-        }
-        Err(refusal) => Err(refusal),
+    match asked.placed {
+        Some(_) => count_placed(asked, range, counts),
+        None => count_range(asked.plan, asked.touch, range, counts),
     }
 }

@@ -34,6 +34,24 @@ fn count_filled(
     Ok(())
 }
 
+/// Counts the pages of a range by node, run by run. (Apart from what counts a few, for which the
+/// counts that this makes needn't be zeroed.)
+#[inline(never)]
+fn count_many(
+    plan: &Plan,
+    touch: Touch,
+    range: &Run<RangeRecord>,
+    counts: &mut [u64; 256],
+) -> Result<(), PlaceRefusal>
+    ensures ok { OnOk result (CountsFirsts plan.now touch.task range.now.first
+        range.now.pages touch.cpu counts.new) }
+    ensures err { IfErr result
+        (RefusesSpan plan.now range.now.first range.now.pages touch.cpu) }
+{
+    *counts = plan.counts(touch.task, range.first, range.pages, touch.cpu)?;
+    Ok(())
+}
+
 /// Counts the pages of a range by node.
 pub(crate) fn count_range(
     plan: &Plan,
@@ -52,8 +70,7 @@ pub(crate) fn count_range(
         let mut nodes = [0u8; FEW];
         return count_filled(plan, touch, range, &mut nodes[..pages as usize], counts);
     }
-    *counts = plan.counts(touch.task, range.first, pages, touch.cpu)?;
-    Ok(())
+    count_many(plan, touch, range, counts)
 }
 
 /// Moves counts that sum to `pages` to the total, from the lowest node on, so that none remains.

@@ -1,7 +1,7 @@
 //! Writing a prediction part by part, in any format.
 ghost use Rattle.numa_reports.specs.Failing.{FailsForNode};
 
-use crate::absent::both_of;
+use crate::absent::add_counts;
 use crate::fault::ReportError;
 use crate::prediction::{RangePrediction, TakeRange};
 use crate::request::PredictionRequest;
@@ -27,14 +27,14 @@ pub(crate) struct PredictionWriter {
     policies: PolicyTexts,
     // Whether pages that find no free page are counted.
     fills: bool,
-    // The number of ranges written and of their pages, in all and by node, and for each range as
-    // many bytes as a picture has cells.
+    // The number of ranges written and of their pages, in all and, where free pages are counted, by
+    // node, and for each range as many bytes as a picture has cells.
     ranges: usize,
     pages: u64,
-    sum: [u64; 256],
+    sum: Option<Box<[u64; 256]>>,
     cells: Vec<u8>,
-    // The ranges of a picture or a page.
-    drawing: Drawing,
+    // The ranges of a picture or a page, if it is one.
+    drawing: Option<Box<Drawing>>,
     // The nodes that get pages of the range being written.
     listed: Vec<NodePages>,
     text: Written,
@@ -52,12 +52,34 @@ fn cells_of(cells: &[u8], ranges: usize, pages: u64) -> &[u8] {
     cells.get(first..end).unwrap_or(&[])
 }
 
+/// Writes a range of a page as an object.
+fn put_object(drawing: &mut Option<Box<Drawing>>, text: &mut Written, row: RangeRow<'_>) {
+    if let Some(drawing) = drawing {
+        drawing.put_object(text, row);
+    }
+}
+
+/// Draws a range of a picture.
+fn put_drawn(
+    drawing: &mut Option<Box<Drawing>>,
+    text: &mut Written,
+    row: RangeRow<'_>,
+    cells: &[u8],
+) {
+    if let Some(drawing) = drawing {
+        drawing.put_range(text, row, cells);
+    }
+}
+
 impl PredictionWriter {
     /// Draws the ranges of a picture that aren't drawn by themselves, and returns how many rows it
     /// has.
     fn end_picture(&mut self) -> u64 {
         let fills = self.fills;
-        match self.drawing.end(&mut self.text, &mut self.listed, fills) {
+        let Some(drawing) = &mut self.drawing else {
+            return 0;
+        };
+        match drawing.end(&mut self.text, &mut self.listed, fills) {
             Ok(rows) => rows,
             Err(_) => {
                 self.text.lack();
@@ -70,10 +92,10 @@ impl PredictionWriter {
     fn end_page(&mut self) {
         objects::end_ranges(&mut self.text);
         let fills = self.fills;
-        if let Err(_) = self
-            .drawing
-            .end_objects(&mut self.text, &mut self.listed, fills)
-        {
+        let Some(drawing) = &mut self.drawing else {
+            return;
+        };
+        if let Err(_) = drawing.end_objects(&mut self.text, &mut self.listed, fills) {
             self.text.lack();
         }
     }
@@ -101,7 +123,10 @@ impl PredictionWriter {
 
     /// The number of these pages on each node, if free pages are counted.
     pub(crate) fn sum(&self) -> [u64; 256] {
-        self.sum
+        match &self.sum {
+            Some(sum) => **sum,
+            None => [0; 256],
+        }
     }
 
     /// Whether the listed pages of a range are counted as such of 2 MiB, as they are from now on,
@@ -159,24 +184,29 @@ impl TakeRange for PredictionWriter {
         match self.format {
             Format::Text | Format::Tap => lines::put_range(text, row),
             Format::Json => objects::put_range(text, row, self.ranges == 0),
-            Format::Html(_) => self.drawing.put_object(text, row),
+            Format::Html(_) => put_object(&mut self.drawing, text, row),
             Format::Csv => records::put_range(text, row),
             Format::Svg(_) => {
                 let cells = cells_of(&self.cells, self.ranges, row.placed.pages);
-                self.drawing.put_range(text, row, cells);
+                put_drawn(&mut self.drawing, text, row, cells);
             }
         }
         self.ranges = self.ranges.saturating_add(1);
         self.pages = self.pages.saturating_add(range.pages);
-        if self.fills {
-            self.sum = both_of(&self.sum, &said.counts);
+        if let Some(sum) = &mut self.sum {
+            add_counts(sum, &said.counts);
         }
         self.text.checked()
     }
 }
 
 /// The part before the first range.
-fn head(alloc: Global, asked: PredictionRequest<'_>, format: Format, drawing: &Drawing) -> Written {
+fn head(
+    alloc: Global,
+    asked: PredictionRequest<'_>,
+    format: Format,
+    drawing: &Option<Box<Drawing>>,
+) -> Written {
     let mut text = Written::new(alloc);
     let (space, touch) = (asked.space, asked.touch);
     let version = asked.plan.version();
@@ -184,20 +214,38 @@ fn head(alloc: Global, asked: PredictionRequest<'_>, format: Format, drawing: &D
         Format::Text | Format::Tap => (),
         Format::Json | Format::Html(_) => objects::put_head(&mut text, version, touch),
         Format::Csv => records::put_head(&mut text),
-        Format::Svg(_) => drawing.put_head(&mut text, version, touch, space),
+        Format::Svg(_) => {
+            if let Some(drawing) = drawing {
+                drawing.put_head(&mut text, version, touch, space);
+            }
+        }
     }
     text
 }
 
-/// Which ranges are shown by themselves.
-fn drawing_of(alloc: Global, space: &Space, format: Format) -> Result<Drawing, AllocError> {
+/// The ranges of a picture or a page, if it is one, and which of them are shown by themselves.
+fn drawing_of(
+    alloc: Global,
+    space: &Space,
+    format: Format,
+) -> Result<Option<Box<Drawing>>, AllocError> {
     match format {
         Format::Svg(number) | Format::Html(number) => {
             let sizes = sizes_of(alloc, space)?;
-            Ok(Drawing::of(sizes.as_slice(), number))
+            let drawing = Box::new(alloc, Drawing::of(sizes.as_slice(), number))?;
+            Ok(Some(drawing))
         }
-        _ => Ok(Drawing::of(&[], 0)),
+        _ => Ok(None),
     }
+}
+
+/// No page on any node, if pages are counted so.
+fn sum_if(alloc: Global, fills: bool) -> Result<Option<Box<[u64; 256]>>, AllocError> {
+    if !fills {
+        return Ok(None);
+    }
+    let sum = Box::new(alloc, [0; 256])?;
+    Ok(Some(sum))
 }
 
 /// Before the first range, with these free pages, if they are counted.
@@ -215,14 +263,16 @@ pub(crate) fn begin(
         _ => Vec::new(alloc),
     };
     let drawing = drawing_of(alloc, asked.space, format)?;
+    let fills = !asked.free.is_empty();
+    let sum = sum_if(alloc, fills)?;
     Ok(PredictionWriter {
         format,
         nodes: asked.space.machine().nodes() as usize,
         policies: PolicyTexts::new(alloc),
-        fills: !asked.free.is_empty(),
+        fills,
         ranges: 0,
         pages: 0,
-        sum: [0; 256],
+        sum,
         cells,
         listed: Vec::new(alloc),
         text: head(alloc, asked, format, &drawing),
