@@ -14,7 +14,10 @@
 --     80, 81     a script makes no machine; a line of a trace can't be replayed
 --     82         a script is a host's, and the answer is about one process
 --     90 to 98   a host refuses a command, or a question names what it hasn't
---     100 to 107 a change of pages that are there is refused
+--     100 to 109 a change of pages that are there is refused
+--     110 to 114 pools of huge pages, and first touches, refuse
+--     115 to 117 no place for a reader; its desk was closed; no version so new
+--     118        no reader, or more than 64
 use Rattle.std.specs.Prelude.{ℕ, Option, Some, None, Result, Ok, Err}
 use Rattle.numa_mask.specs.declared.list.ListFault.{ListFault}
 use Rattle.numa_mask.specs.declared.list.ListFault.TheVariants as list

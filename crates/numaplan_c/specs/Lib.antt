@@ -1,4 +1,5 @@
 pub mod Codes
+pub mod Desks
 pub mod Compared
 pub mod Explanations
 pub mod Border

@@ -89,7 +89,7 @@ fault_names =
     ∷ named 80 (codes "NoMachine") ∷ named 81 (codes "BadAccess")
     ∷ named 82 (codes "ManyProcesses") ∷ []
 
--- causes that only a host or pages have
+-- causes that only a host, pages or a desk have
 abbrev pub late_names : List Named
 late_names =
     named 90 (codes "GroupExists") ∷ named 91 (codes "NoSuchGroup")
@@ -104,7 +104,9 @@ late_names =
     ∷ named 108 (codes "NoSuchCpu") ∷ named 109 (codes "SpanUnmapped")
     ∷ named 110 (codes "NoSuchPool") ∷ named 111 (codes "Unsure")
     ∷ named 112 (codes "NoHugePages") ∷ named 113 (codes "NodesFull")
-    ∷ named 114 (codes "NoPageFree") ∷ []
+    ∷ named 114 (codes "NoPageFree")
+    ∷ named 115 (codes "NoPlace") ∷ named 116 (codes "Ended") ∷ named 117 (codes "NotYet")
+    ∷ named 118 (codes "BadReaders") ∷ []
 
 -- the name of a number, without a byte where it has none
 abbrev pub name_in : List Named → ℕ → List ℕ
@@ -152,7 +154,8 @@ abbrev pub host_errno_or : Option HostRefusal → ℕ → ℕ
 host_errno_or (Some cause) other = host_errno_number (host_errno_of cause)
 host_errno_or None other = other
 
--- those of the causes that only pages have, from 100 on; 0 where there is none
+-- those of the causes that only pages have, from 100 on, and those of desks, from 115 on: EAGAIN,
+-- ESHUTDOWN, EAGAIN, EINVAL; 0 where there is none
 abbrev pub placed_errnos : List ℕ
 placed_errnos =
     placed_errno_of placed.TooManyRuns ∷ placed_errno_of placed.Astray
@@ -161,7 +164,8 @@ placed_errnos =
     ∷ placed_errno_of placed.Occupied ∷ placed_errno_of placed.BadCpu
     ∷ placed_errno_of placed.Unmapped ∷ huge_errno_of huge.NoSuchNode
     ∷ huge_errno_of huge.Unsure ∷ huge_errno_of huge.NoHugePages
-    ∷ huge_errno_of huge.Exhausted ∷ huge_errno_of huge.Killed ∷ []
+    ∷ huge_errno_of huge.Exhausted ∷ huge_errno_of huge.Killed
+    ∷ 11 ∷ 108 ∷ 11 ∷ 22 ∷ []
 
 abbrev pub placed_errno : ℕ → ℕ
 placed_errno code = if nat_lt code 100 then 0 else slice_index placed_errnos (code - 100)

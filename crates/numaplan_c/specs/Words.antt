@@ -84,7 +84,7 @@ fault_words =
     named 82 (codes "the script is a host's, and the answer is about one process") ∷
     []
 
--- of the answers of causes that only a host or pages have
+-- of the answers of causes that only a host, pages or a desk have
 abbrev pub late_words : List Named
 late_words =
     named 90 (codes "there is a group of this number; choose another") ∷
@@ -123,6 +123,10 @@ late_words =
     ++ codes "room by set_room") ∷
     named 114 (codes "no node of the page's list gives a page of 2 MiB, and the task gets SIGBUS; "
     ++ codes "resize the pools, or reserve the page when it is mapped") ∷
+    named 115 (codes "the desk has as many readers as it can; close one, or open it for more") ∷
+    named 116 (codes "the reader's desk was closed; the reader answers by what it took last") ∷
+    named 117 (codes "the newest version that could be taken is older than that; enter again") ∷
+    named 118 (codes "there is no reader, or there are more than 64; open it for 1 to 64") ∷
     []
 
 -- what an answer says, without a byte where no answer has this number

@@ -119,6 +119,14 @@ pub(crate) enum Code {
     NodesFull = 113,
     /// No node gives a page of 2 MiB that is touched.
     NoPageFree = 114,
+    /// Each place for a reader of the desk is in use.
+    NoPlace = 115,
+    /// The reader's desk was closed.
+    Ended = 116,
+    /// The newest version that the reader could take is older than the one that was asked for.
+    NotYet = 117,
+    /// No reader, or more than 64.
+    BadReaders = 118,
 }
 
 /// The code of a cause: of some kinds the one with the cause's own name, of the others what an arm

@@ -90,7 +90,7 @@ static FAULT_NAMES: [(u32, &[u8]); 23] = [
 ];
 
 /// The names of the codes of causes that only a host or pages have.
-static LATE_NAMES: [(u32, &[u8]); 24] = [
+static LATE_NAMES: [(u32, &[u8]); 28] = [
     (90, b"GroupExists"),
     (91, b"NoSuchGroup"),
     (92, b"TooManyGroups"),
@@ -115,6 +115,10 @@ static LATE_NAMES: [(u32, &[u8]); 24] = [
     (112, b"NoHugePages"),
     (113, b"NodesFull"),
     (114, b"NoPageFree"),
+    (115, b"NoPlace"),
+    (116, b"Ended"),
+    (117, b"NotYet"),
+    (118, b"BadReaders"),
 ];
 
 /// The text of a code in a table, empty if it has none.
@@ -143,7 +147,7 @@ fn fault_name(code: u32) -> &'static [u8]
     name_in(&FAULT_NAMES, code)
 }
 
-/// The name of a code of a cause that only a host or pages have.
+/// The name of a code of a cause that only a host, pages or a desk have.
 fn late_name(code: u32) -> &'static [u8]
     ensures { result.now ≡ name_in late_names code }
 {
@@ -224,7 +228,7 @@ fn host_errno_number(errno: HostErrno) -> u32
     }
 }
 
-/// The error number of a code of pages, 0 if there is none.
+/// The error number of a code of pages or of desks, 0 if there is none.
 fn placed_errno(code: u32) -> u32
     ensures { result ≡ placed_errno code }
 {
@@ -244,6 +248,11 @@ fn placed_errno(code: u32) -> u32
         112 => HugeRefusal::NoHugePages.errno(),
         113 => HugeRefusal::Exhausted.errno(),
         114 => HugeRefusal::Killed.errno(),
+        // EAGAIN, ESHUTDOWN, EAGAIN, EINVAL
+        115 => 11,
+        116 => 108,
+        117 => 11,
+        118 => 22,
         _ => 0,
     }
 }

@@ -167,7 +167,7 @@ pub extern "C" fn np_plan_choice(
 }
 
 /// The code of the result of a question about a span.
-fn fill_code(answer: Result<(), PlaceRefusal>) -> u32
+pub(crate) fn fill_code(answer: Result<(), PlaceRefusal>) -> u32
     ensures { result ≡ fill_code answer }
 {
     match answer {

@@ -245,7 +245,7 @@ static FAULT_WORDS: [(u32, &[u8]); 23] = [
 ];
 
 /// The words of the codes of causes that only a host or pages have.
-static LATE_WORDS: [(u32, &[u8]); 24] = [
+static LATE_WORDS: [(u32, &[u8]); 28] = [
     (90, b"there is a group of this number; choose another"),
     (
         91,
@@ -340,9 +340,25 @@ static LATE_WORDS: [(u32, &[u8]); 24] = [
         b"no node of the page's list gives a page of 2 MiB, and the task gets SIGBUS; resize \
           the pools, or reserve the page when it is mapped",
     ),
+    (
+        115,
+        b"the desk has as many readers as it can; close one, or open it for more",
+    ),
+    (
+        116,
+        b"the reader's desk was closed; the reader answers by what it took last",
+    ),
+    (
+        117,
+        b"the newest version that could be taken is older than that; enter again",
+    ),
+    (
+        118,
+        b"there is no reader, or there are more than 64; open it for 1 to 64",
+    ),
 ];
 
-/// What a code of a cause that only a host or pages have says, empty if it has none.
+/// What a code of a cause that only a host, pages or a desk have says, empty if it has none.
 fn late_words(code: u32) -> &'static [u8]
     ensures { result.now ≡ name_in late_words code }
 {

@@ -1,5 +1,6 @@
 pub mod Asked
 pub mod Calls
+pub mod Desks
 pub mod Dialogs
 pub mod Handles
 pub mod Held
@@ -10,6 +11,7 @@ pub mod Ownership
 pub mod PageCalls
 pub mod Pages
 pub mod Plans
+pub mod Readers
 pub mod Room
 pub mod Seats
 pub mod Steps
@@ -19,3 +21,4 @@ pub use Rattle.numa_host_script.specs.Sessions
 pub use Rattle.numa_host_script.specs.Standing as SessionStanding
 pub use Rattle.numa_pages.specs.Changes
 pub use Rattle.numa_plan.specs.Meaning
+pub use Rattle.numa_publish.specs.Shown

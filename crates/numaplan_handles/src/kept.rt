@@ -7,6 +7,7 @@ use numa_host_script::RunningHost;
 use numa_pages::Pages;
 use numa_plan::Plan;
 use numa_pool::OwnedSeat;
+use numa_publish::{Desk, PlanView};
 use std::alloc::Global;
 use std::sync::Arc;
 
@@ -25,6 +26,10 @@ pub enum Kept {
     Host(RunningHost),
     /// A core with its pages, which belong to the handle alone.
     Pages(Pages),
+    /// A desk, which belongs to the handle alone.
+    Desk(Desk),
+    /// A reader of a desk, with the version at which it looks.
+    Reader(PlanView),
 }
 
 /// The value, of a kind that is known.
