@@ -13,11 +13,12 @@
  *
  * Threads. A handle may go to another thread, ordered by a lock, a start or a join. Calls that take
  * it `const` may run in any number of threads at once, and wait for nothing: those that ask a plan,
- * which never changes, and np_plan_share, by which a plan outlives the handle of another thread.
+ * which never changes, or a reader, and np_plan_share, by which a plan outlives the handle of
+ * another thread.
  * Each other call has its handle to itself: np_plan_close too, which comes after all questions of
  * other threads. np_seat_split makes a seat for each thread that takes frames. The library starts
- * no thread, waits for nothing and never ends the process. So it has no desk and no reader: a
- * program that swaps the plan of running threads does so under a lock of its own.
+ * no thread, waits for nothing and never ends the process. A desk shows each new plan to readers in
+ * other threads (numaplan_desks.h).
  *
  * Pointers are not null, not even where a length is 0, and hold for the call; no two of one call
  * overlap. Texts are bytes with a length, without a zero at the end: NP_TEXT makes both of a string.
@@ -164,7 +165,12 @@ enum np_answer {
     NP_UNSURE = 111,        /* Linux takes all the node's memory where its pool is resized so */
     NP_NO_HUGE_PAGES = 112, /* ENOMEM: a mapping finds too few free pages that aren't reserved */
     NP_NODES_FULL = 113,    /* no node of the page's list has room for it */
-    NP_NO_PAGE_FREE = 114   /* SIGBUS: no node of its list gives a page of 2 MiB */
+    NP_NO_PAGE_FREE = 114,  /* SIGBUS: no node of its list gives a page of 2 MiB */
+    /* a desk, or a reader of one */
+    NP_NO_PLACE = 115,   /* EAGAIN: the desk has as many readers as it can */
+    NP_ENDED = 116,      /* ESHUTDOWN: the desk was closed; the reader has what it had */
+    NP_NOT_YET = 117,    /* EAGAIN: no version so new could be taken; enter again */
+    NP_BAD_READERS = 118 /* EINVAL: no reader, or more than 64 */
 };
 
 /* ---- types */
@@ -590,8 +596,8 @@ uint32_t np_answer_words(uint32_t code, uint8_t *words, size_t room, size_t *len
 /* Writes the error number that Linux gives for the cause of an answer (errno(3)): EINVAL,
  * ENOMEM, EEXIST, EFAULT, ENOSPC, EOPNOTSUPP or ENOENT for what mmap(2), mbind(2),
  * set_mempolicy(2) and set_mempolicy_home_node(2) refuse, EACCES, ESRCH, EAGAIN or EPERM too for
- * what a host refuses, EACCES, EIO or ENODEV too for what pages refuse, else 0. NP_UNKNOWN where no
- * answer has this number. */
+ * what a host refuses, EACCES, EIO or ENODEV too for what pages refuse, EAGAIN or ESHUTDOWN too for
+ * what desks and readers refuse, else 0. NP_UNKNOWN where no answer has this number. */
 uint32_t np_answer_errno(uint32_t code, uint32_t *number);
 
 #ifdef __cplusplus
@@ -599,6 +605,7 @@ uint32_t np_answer_errno(uint32_t code, uint32_t *number);
 #endif
 
 #include "numaplan_plans.h"
+#include "numaplan_desks.h"
 #include "numaplan_pools.h"
 #include "numaplan_reports.h"
 #include "numaplan_hosts.h"

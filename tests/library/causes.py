@@ -54,7 +54,7 @@ OTHERS = {
     **dict.fromkeys(["BadCpu", "NoRange", "NoSuchCpu", "NoSuchNode", "NoSuchWorker", "NotOwned",
                      "SpanUnmapped", "Unknown", "Unmapped"], LookupError),
     **dict.fromkeys(["AllTaken", "Busy", "Exhausted", "Idle", "NodesFull", "NoPageFree", "Unsure"], OSError),
-    **dict.fromkeys(["OutOfSpace", "NoNodes"], ValueError),  # (of an address, of an empty list)
+    **dict.fromkeys(["OutOfSpace", "NoNodes", "Ended"], ValueError),  # (of an address, of an empty list)
 }
 
 

@@ -688,7 +688,7 @@ static void causes(void) {
         WANT(np_answer_errno(all[k].code, &number), NP_OK);
         WANT(number, all[k].number);
     }
-    WANT(np_answer_errno(115, &number), NP_UNKNOWN);
+    WANT(np_answer_errno(119, &number), NP_UNKNOWN);
 }
 
 /* Commands by the system calls' own words do what those by text do; and an mbind of no bytes whose
