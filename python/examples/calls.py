@@ -1,7 +1,7 @@
 """Python's calls, one kind after the other. Addresses and lengths are in bytes, and a page's
 number is its address / 4096."""
 
-from numaplan import Core, Host, Overlap, Pages, Script, predict
+from numaplan import Core, Desk, Host, Overlap, Pages, Script, predict
 
 PAGE, HEAP = 4096, 0x100000
 TASK, CPU = 1, 0  # a task, and the node of its CPU
@@ -51,6 +51,15 @@ with Host(frames=[8] * 4, distances=DISTANCES) as host:
     host.populate(7, HEAP, PAGE, TASK, CPU)
     host.set_group_mems(1, "0-1")
     print("its page followed:", host.moves(7).flows)
+
+# publish and read: readers in other threads take each version whole, and wait for nobody
+with Desk(frames=[8] * 4, distances=DISTANCES, readers=8) as desk:
+    desk.map(HEAP, PAGE)
+    version, reader = desk.publish(), desk.reader()
+    desk.mbind(HEAP, PAGE, "bind:3")
+    print("version", version, "has", reader.choice(TASK, HEAP // PAGE, CPU), end=", ")
+    version = reader.enter(desk.publish())
+    print("version", version, "has", reader.choice(TASK, HEAP // PAGE, CPU))
 
 # scripts: line by line, or whole, with the answers of the program in its formats
 with Script() as script:

@@ -22,7 +22,7 @@ from ._causes import AllTaken, AnswerLost, Astray, BadAccess, BadCpu, BadDistanc
 from ._causes import BadLimits
 from ._causes import BadNodeCount, BadOffset
 from ._causes import BadOrders, BadRules, BadSpan, BadTry, BadWeight, BadWorkers, BothFlags, Busy
-from ._causes import Closed
+from ._causes import BadReaders, Closed, Ended, NoPlace, NotYet
 from ._causes import GroupExists, GroupMems, NoSuchGroup, NoSuchProcess, Populated, ProcessExists
 from ._causes import RootGroup, TooManyGroups, TooManyProcesses
 from ._causes import CommandsSpent, EmptyLength, Exhausted, FlagsForbidden, Hole, Idle
@@ -45,14 +45,14 @@ from ._values import effective, nodes, nodes_text, policy_text, rebind
 
 __version__ = "0.10.0"
 __all__ = [
-    "Answer", "Arrived", "Bound", "Core", "Explanation", "Frame", "Group", "Host", "HugePool",
+    "Answer", "Arrived", "Bound", "Core", "Desk", "Explanation", "Frame", "Group", "Host", "HugePool",
     "HugePools", "Move", "Moved", "PageRun", "Pages", "Placement", "Plan", "PlanRun", "Policy",
     "Prediction", "Process",
-    "Question", "Range", "Report", "Route", "Script", "Seat",
+    "Question", "Range", "Reader", "Report", "Route", "Script", "Seat",
     "check", "columns", "diff", "effective", "explain", "machine_lines", "moves", "nodes",
     "nodes_text", "policy_text", "predict", "progress", "rebind", "replay", "sweep", "write_table",
     "AllTaken", "AnswerLost", "Astray", "BadAccess", "BadCpu", "BadDistance", "BadFormat",
-    "BadLimits",
+    "BadLimits", "BadReaders", "Ended", "NoPlace", "NotYet",
     "BadNodeCount", "BadOffset",
     "BadOrders", "BadRules", "BadSpan", "BadTry", "BadWeight", "BadWorkers", "BothFlags", "Busy",
     "CAUSES",
@@ -74,6 +74,7 @@ for _one in (Core, Explanation, Move, Placement, Plan, PlanRun, Policy, Predicti
     _one.__module__ = __name__
 
 if TYPE_CHECKING:
+    from ._desks import Desk, Reader
     from ._hosts import Group, Host, Process
     from ._pages import Arrived, Bound, HugePool, HugePools, Moved, PageRun, Pages
     from ._progress import progress
@@ -85,6 +86,7 @@ if TYPE_CHECKING:
 else:
     # what a program that asks a core doesn't need, by module: imported where it is first named
     _LATER = {name: module for module, names in {
+        "_desks": ["Desk", "Reader"],
         "_hosts": ["Group", "Host", "Process"],
         "_pages": ["Arrived", "Bound", "HugePool", "HugePools", "Moved", "PageRun", "Pages"],
         "_progress": ["progress"],

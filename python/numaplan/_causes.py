@@ -441,6 +441,25 @@ class NoPageFree(Refused, OSError):
              " pools, or reserve the page when it is mapped")
 
 
+# ---- desks
+
+
+class NoPlace(Refused, OSError):
+    number, words = 115, "the desk has as many readers as it can; close one, or open it for more"
+
+
+class Ended(Refused, ValueError):
+    number, words = 116, "the reader's desk was closed; the reader answers by what it took last"
+
+
+class NotYet(Refused, OSError):
+    number, words = 117, "the newest version that could be taken is older than that; enter again"
+
+
+class BadReaders(Refused, ValueError):
+    number, words = 118, "there is no reader, or there are more than 64; open it for 1 to 64"
+
+
 CAUSES: dict[int, type[Refused]] = {cause.number: cause for cause in Refused.__subclasses__()}
 
 

@@ -206,6 +206,24 @@ _SIGNATURES = {
     "plan_nodes": [_HANDLE, _U32, _U32, c_void_p, c_size_t, POINTER(c_uint8), c_size_t, c_uint8],
     "plan_runs": [_HANDLE, _U32, POINTER(PagesInTurns), c_size_t, POINTER(c_size_t)],
     "plan_counts": [_HANDLE, _U32, _U32, _U64, _U64, POINTER(_U64 * 256)],
+    "desk_open": [_HANDLE, *_OPENED_BY, POINTER(Options)],
+    "desk_map": [_HANDLE, _U64, _U64, _U64],
+    "desk_map_huge": [_HANDLE, _U64, _U64, _U64],
+    "desk_unmap": [_HANDLE, _U64, _U64],
+    "desk_mbind": [_HANDLE, _U64, _U64, _TEXT, c_size_t],
+    "desk_set_task": [_HANDLE, _U32, _TEXT, c_size_t],
+    "desk_inherit": [_HANDLE, _U32, _U32],
+    "desk_set_home": [_HANDLE, _U64, _U64, _U32],
+    "desk_set_weight": [_HANDLE, _U32, _U32],
+    "desk_set_mems": [_HANDLE, _TEXT, c_size_t],
+    "desk_publish": [_HANDLE, POINTER(_U64)],
+    "desk_versions": [_HANDLE, POINTER(_U64), POINTER(_U64)],
+    "desk_reader": [_HANDLE, _HANDLE],
+    "reader_enter": [_HANDLE, _U64, POINTER(_U64)],
+    "reader_version": [_HANDLE, POINTER(_U64)],
+    "reader_choice": [_HANDLE, _U32, _U64, _U32, *_ROOM],
+    "reader_fill": [_HANDLE, _U32, _U32, _U64, POINTER(c_uint8), c_size_t],
+    "reader_counts": [_HANDLE, _U32, _U32, _U64, _U64, POINTER(_U64 * 256)],
     "seat_open": [_HANDLE, _TEXT, c_size_t, POINTER(_U32), c_size_t, _TEXT, c_size_t],
     "seat_split": [_HANDLE, _HANDLE],
     "seat_take": [_HANDLE, _TEXT, c_size_t, POINTER(TakenFrame), POINTER(c_size_t)],
@@ -367,8 +385,8 @@ def _load() -> ctypes.CDLL:
         if function is None:
             raise ImportError(f"{library._name} lacks np_{name}: it is of another version")
         function.argtypes, function.restype = types, c_uint32
-    for name in ("core_close", "host_close", "pages_close", "plan_close", "script_close",
-                 "seat_close"):
+    for name in ("core_close", "desk_close", "host_close", "pages_close", "plan_close",
+                 "reader_close", "script_close", "seat_close"):
         function = getattr(library, "np_" + name)
         function.argtypes, function.restype = [_HANDLE], None
     return library

@@ -180,6 +180,14 @@ causes! {
         "no node of the page's list has room for it; move others away, or give a node room by set_room";
     114 NO_PAGE_FREE "NoPageFree"
         "no node of the page's list gives a page of 2 MiB, and the task gets SIGBUS; resize the pools, or reserve the page when it is mapped";
+    115 NO_PLACE "NoPlace"
+        "the desk has as many readers as it can; close one, or open it for more";
+    116 ENDED "Ended"
+        "the reader's desk was closed; the reader answers by what it took last";
+    117 NOT_YET "NotYet"
+        "the newest version that could be taken is older than that; enter again";
+    118 BAD_READERS "BadReaders"
+        "there is no reader, or there are more than 64; open it for 1 to 64";
 }
 
 impl Refused {
