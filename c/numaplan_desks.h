@@ -79,9 +79,10 @@ uint32_t np_desk_reader(np_desk *desk, np_reader *reader);
 
 /* Takes the newest published plan, and writes its version to `version`; one that is none older than
  * `least`, as np_desk_publish gave it to another thread, or 0. Where the newest is the reader's
- * already, this is one load. Where it is refused, the reader keeps the plan that it has: NP_CLOSED;
- * NP_ENDED where the desk was closed; NP_NOT_YET where the newest that could be taken is older than
- * `least`, which a desk that published it answers only while others are in the way: enter again. */
+ * already, this is one load; and many questions may follow one call, which the same plan answers.
+ * Where it is refused, the reader keeps the plan that it has: NP_CLOSED; NP_ENDED where the desk was
+ * closed; NP_NOT_YET where the newest that could be taken is older than `least`, which a desk that
+ * published it answers only while others are in the way: enter again. */
 uint32_t np_reader_enter(np_reader *reader, uint64_t least, uint64_t *version);
 
 /* Questions to the plan that the reader took last, as those to a plan. NP_CLOSED, NP_BAD_CPU,
