@@ -1,6 +1,6 @@
 //! A number for each node.
 ghost use Rattle.std.specs.Prelude.{◌≡◌, ◌+◌, ◌-◌, ◌<◌, ◌≤◌, ◌^◌, ℕ, map, slice_index, sum};
-ghost use Rattle.std.specs.Prelude.{if◌then◌else◌};
+ghost use Rattle.std.specs.Prelude.{if◌then◌else◌, nat_lt};
 ghost use Rattle.numa_mask.specs.NodeSet.{has};
 ghost use Rattle.numa_pools.specs.Turns.{least, less, on, plus};
 ghost use Rattle.numa_pools.specs.Rounds.{turns_within};
@@ -67,16 +67,42 @@ pub(crate) fn on(nodes: &NodeMask, xs: &[u64; NODES]) -> [u64; NODES]
     those
 }
 
-/// The sum of the numbers of the nodes of a set.
-pub(crate) fn sum_on(nodes: &NodeMask, xs: &[u64; NODES]) -> u64
+/// Whether one number is less than another.
+fn is_less(one: u64, other: u64) -> bool
+    ensures { result ≡ nat_lt one other }
+{
+    one < other
+}
+
+/// Whether the sum of the numbers of all nodes is less than this: no more nodes are looked at than
+/// tell that it isn't.
+pub(crate) fn are_fewer(xs: &[u64; NODES], pages: u64) -> bool
     requires { sum xs.now < 2 ^ 64 }
-    ensures { result ≡ sum (on nodes.now xs.now) }
+    ensures { result ≡ nat_lt (sum xs.now) pages }
 {
     let mut total = 0;
     for node in 0..NODES {
+        if !is_less(total, pages) {
+            return false;
+        }
+        total += xs[node];
+    }
+    total < pages
+}
+
+/// Whether the sum of the numbers of a set's nodes is less than this.
+pub(crate) fn are_fewer_on(nodes: &NodeMask, xs: &[u64; NODES], pages: u64) -> bool
+    requires { sum xs.now < 2 ^ 64 }
+    ensures { result ≡ nat_lt (sum (on nodes.now xs.now)) pages }
+{
+    let mut total = 0;
+    for node in 0..NODES {
+        if !is_less(total, pages) {
+            return false;
+        }
         total += number_on(nodes, xs, node);
     }
-    total
+    total < pages
 }
 
 /// Adds to the number of each node.

@@ -1,6 +1,6 @@
 //! The pools of a machine.
 ghost use Rattle.std.specs.Prelude.{◌≡◌, ◌+◌, ◌-◌, ◌≤◌, ◌^◌, ◌<◌, if◌then◌else◌, IfSome, false};
-ghost use Rattle.std.specs.Prelude.{true, slice_index, sum};
+ghost use Rattle.std.specs.Prelude.{true, nat_lt, slice_index, sum};
 ghost use Rattle.numa_pools.specs.Kept.{AreKept};
 ghost use Rattle.numa_pools.specs.Pools.{giver, giving_back, lacks_pages, no_pages};
 ghost use Rattle.numa_pools.specs.Pools.{refusing, reserving, surplus_at, taken_from, total_at};
@@ -10,7 +10,7 @@ ghost use Rattle.numa_pools.specs.Pools.{taking, unreserved, used};
 mod moving;
 mod resizing;
 
-use crate::counts::{NODES, least_of, sum_of, sum_on, take_each};
+use crate::counts::{NODES, are_fewer, are_fewer_on, least_of, sum_of, take_each};
 use crate::shares::in_turn;
 use numa_machine::Machine;
 use numa_mask::NodeMask;
@@ -194,13 +194,21 @@ impl Pools {
         let _total = &self.total;
     }
 
+    /// Whether there are fewer unreserved pages than so many.
+    fn lacks_unreserved(&self, pages: u64) -> bool
+        ensures { result ≡ nat_lt (unreserved self.now) pages }
+    {
+        let asked = pages.saturating_add(self.reserved);
+        are_fewer(&self.free, asked)
+    }
+
     /// Whether there are too few pages for a mapping of so many, whose pages may come from these
     /// nodes: those that its process is allowed, and if its task is bound, bound nodes among them.
     pub fn lacks(&self, pages: u64, nodes: &NodeMask) -> bool
         ensures lacks { result ≡ lacks_pages self.now pages nodes.now }
         ensures enough { result ≡ false → pages ≤ unreserved self.now }
     {
-        self.unreserved() < pages || sum_on(nodes, &self.free) < pages
+        self.lacks_unreserved(pages) || are_fewer_on(nodes, &self.free, pages)
     }
 
     /// Reserves the pages of a mapping, which are there (`lacks`).

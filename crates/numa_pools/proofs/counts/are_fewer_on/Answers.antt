@@ -1,10 +1,11 @@
-use Rattle.std.proofs.Common.{◌≡◌, ℕ, ◌<◌, ◌≤◌, ◌∙◌, ap, arith, length, sym}
-use Rattle.std.specs.Prelude.{sum}
+use Rattle.std.proofs.Common.{◌≡◌, ℕ, ◌<◌, ◌≤◌, ◌∙◌, false, ap, arith, inl, inr, length, sym}
+use Rattle.std.specs.Prelude.{nat_lt, sum}
+use Rattle.std.proofs.lemmas.Bool.{le-ltb, ltb-false}
 use Rattle.std.proofs.lemmas.List.{take_all}
-use Rattle.std.proofs.lemmas.List.Sums.{sum_by_more, sum_by_more_le}
+use Rattle.std.proofs.lemmas.List.Sums.{sum_by_more, sum_by_more_le, sum_by-take-le}
 use Rattle.numa_pools.specs.Turns.{on}
 use Rattle.numa_pools.proofs.Each.{length-on, on-at, sum-on}
-use Rattle.numa_pools.proofs.counts.sum_on.Goals as goal
+use Rattle.numa_pools.proofs.counts.are_fewer_on.Goals as goal
 
 pub overflow_add-total : goal.overflow_add-total
 overflow_add-total c =
@@ -37,10 +38,23 @@ loop-node-preserved c =
       );
     }
 
+pub returns-then-not-is_less : goal.returns-then-not-is_less
+returns-then-not-is_less c =
+    let those = on c.args.nodes.now c.args.xs.now in
+    let most : c.args.pages ≤ c.loop-node.total =
+    ltb-false c.loop-node.total c.args.pages (sym c.is_less.ensures ∙ c.if-not-is_less.true) in
+    sym (le-ltb (sum those) c.args.pages (omega (
+      arith,
+      most,
+      c.loop-node.invariant.sum,
+      sum_by-take-le (λ (x : ℕ). x) those c.loop-node.node,
+    )))
+
 pub returns : goal.returns
 returns c =
     let xs = c.args.xs.now in
     let nodes = c.args.nodes.now in
-    c.loop-node.invariant.sum
+    ap (λ (n : ℕ). nat_lt n c.args.pages)
+    (c.loop-node.invariant.sum
     ∙ ap sum (take_all c.loop-node.node (on nodes xs)
-    (omega (arith, length-on nodes xs, c.loop-node.invariant.long, c.loop-node-test.false)))
+    (omega (arith, length-on nodes xs, c.loop-node.invariant.long, c.loop-node-test.false))))
