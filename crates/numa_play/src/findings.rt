@@ -4,15 +4,16 @@ ghost use Rattle.numa_subjects.specs.Faults.{ended_by, has_faults};
 
 use crate::found_objects::{Message, Said, put_message, put_unjudged, say_message, words_of};
 use crate::huge::{HugeCount, remark_on};
-use crate::judging::{judge, judge_by_other};
+use crate::judging::judge;
 use crate::named::{Named, TasksNamed};
+use crate::twin::TwinScript;
 use numa_diagnose::{Detail, Finding, HostHint, LineAt, hint_in, hint_of, say_unjudged};
 use numa_host_script::HostScript;
 use numa_lines::{RunFault, TakeLine, Watched};
 use numa_machine::Rules;
 use numa_mask::parts::first_place;
 use numa_requests::{CoreRefusal, HostRefusal, Refusal};
-use numa_rules::{Text, other_rules};
+use numa_rules::Text;
 use numa_run::Script;
 use numa_script::line::parse;
 use numa_script::{Line, PageLine, Reply, ScriptLine};
@@ -31,6 +32,9 @@ pub struct Look {
     pub hints: bool,
     /// Whether the lines are also played by the rules other than those that apply.
     pub other: Twin,
+    /// Whether that waits until these rules do something else with a line: up to then no page goes
+    /// elsewhere by them.
+    pub waits: bool,
     /// The process of a host, if messages are wanted of its lines alone.
     pub process: Option<u32>,
     /// Whether it is told why a line `at` is refused; else it doesn't matter.
@@ -43,6 +47,7 @@ pub struct Look {
 pub const PLAIN: Look = Look {
     hints: false,
     other: Twin::None,
+    waits: false,
     process: None,
     tells_at: true,
     format: Format::Text,
@@ -54,7 +59,7 @@ pub struct Findings<W> {
     pub(crate) alloc: Global,
     script: HostScript,
     // The same script by the other rules, if requested.
-    other: Option<HostScript>,
+    other: TwinScript,
     look: Look,
     // What lines name.
     named: Named,
@@ -93,15 +98,6 @@ impl<W: Drop> Drop for Findings<W> {
     }
 }
 
-/// A script by the rules other than these, if requested.
-fn other_script(rules: Rules, twin: Twin) -> Option<HostScript> {
-    match twin {
-        Twin::None => None,
-        Twin::UnlessChosen if rules.is_linux() => None,
-        _ => Some(HostScript::by(other_rules(rules))),
-    }
-}
-
 impl<W: Write> Findings<W> {
     /// The state before the first line. Messages go to the writer. These rules apply unless a line
     /// says otherwise.
@@ -112,7 +108,7 @@ impl<W: Write> Findings<W> {
         Findings {
             alloc,
             script: HostScript::by(rules),
-            other: other_script(rules, look.other),
+            other: TwinScript::new(alloc, rules, look.other, look.waits),
             look,
             named: Named::new(None, None),
             is_binary: false,
@@ -124,9 +120,10 @@ impl<W: Write> Findings<W> {
         }
     }
 
-    /// The script that the lines led to by the other rules, if they are played by those.
+    /// The script that the lines led to by the other rules, if they are played by those; none while
+    /// that waits, since by these rules no page would go elsewhere.
     pub fn other(&self) -> Option<&HostScript> {
-        self.other.as_ref()
+        self.other.script()
     }
 
     /// The same, where this process of a host and this task are asked for, if they are given.
@@ -249,22 +246,11 @@ impl<W: Write> Findings<W> {
         self.say(Message { at, said })
     }
 
-    /// Plays a line by the other rules, if requested.
-    fn follow(&mut self, said: &ScriptLine<'_>) -> Result<(), RunFault> {
-        let Some(other) = &mut self.other else {
-            return Ok(());
-        };
-        match judge_by_other(self.alloc, other, said) {
-            Some(fault) if fault.lacks_memory() => Err(RunFault::Memory),
-            _ => Ok(()),
-        }
-    }
-
     /// Drops the script by the other rules if a line chooses rules, where it is played only unless
     /// one does.
     fn heed_rules(&mut self) {
         if self.look.other == Twin::UnlessChosen && self.named.has_rules() {
-            drop(self.other.take());
+            self.other.leave();
         }
     }
 
@@ -480,7 +466,7 @@ impl<W: Write> TakeLine<()> for Findings<W> {
         let said = parse(line);
         self.note(&said);
         self.heed_rules();
-        match self.follow(&said) {
+        match self.other.follow(&self.script, line, &said) {
             Ok(()) => self.judge_line(name, place, line, &said),
             Err(why) => Err(why),
         }

@@ -21,6 +21,7 @@ mod places;
 mod playing;
 mod question;
 mod touching;
+mod twin;
 
 pub use findings::{Findings, Look, PLAIN};
 pub use huge::{HugeCount, remark_on};

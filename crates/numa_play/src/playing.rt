@@ -67,6 +67,7 @@ pub fn check<R: Read + Drop, W: Write + Drop>(
     let look = Look {
         hints: true,
         other: Twin::None,
+        waits: false,
         process,
         tells_at: true,
         format,

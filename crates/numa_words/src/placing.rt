@@ -15,6 +15,7 @@ use std::io::{Read, Write};
 const KEEPING: Reading = Reading {
     task: None,
     other: Twin::None,
+    waits: false,
     heeds_at: true,
 };
 

@@ -124,6 +124,8 @@ pub struct Reading {
     pub task: Option<u32>,
     /// The rules by which they are played too.
     pub other: Twin,
+    /// Whether that waits until these rules do something else with a line.
+    pub waits: bool,
     /// Whether it matters where pages lie, so that it is told why a line `at` is refused.
     pub heeds_at: bool,
 }
@@ -231,6 +233,7 @@ fn begin<T: Write + Drop>(
 ) -> Result<Reader<T>, Halt> {
     let look = Look {
         other: how.other,
+        waits: how.waits,
         tells_at: how.heeds_at,
         ..PLAIN
     };

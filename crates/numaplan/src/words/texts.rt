@@ -259,7 +259,7 @@ fn touches_in<T: Write>(
 }
 
 /// How scripts are played for a question: where pages lie matters to those about pages that are
-/// there.
+/// there. Where no lines are added, the other rules matter only once they do something else.
 pub fn reading_of(asking: Asking<'_>) -> Reading {
     let tells_places = matches!(
         asking.question,
@@ -268,6 +268,10 @@ pub fn reading_of(asking: Asking<'_>) -> Reading {
     Reading {
         task: asking.task(),
         other: asking.twin(),
+        waits: matches!(
+            asking.question,
+            Question::Predict(..) | Question::Explain(..)
+        ),
         heeds_at: tells_places || !asking.at.is_empty(),
     }
 }
