@@ -50,7 +50,8 @@ uint32_t np_desk_open(np_desk *desk, const uint8_t *memory, size_t memory_length
 void np_desk_close(np_desk *desk);
 
 /* Commands, as the calls of the same name for a core: each that is accepted adds one to the version,
- * and readers see it once it is published. */
+ * and readers see it once it is published. np_desk_mbind answers a faulty policy before all else, by
+ * the kernel's rules and of no bytes, too. */
 uint32_t np_desk_map(np_desk *desk, uint64_t start, uint64_t length, uint64_t offset);
 uint32_t np_desk_map_huge(np_desk *desk, uint64_t start, uint64_t length, uint64_t offset);
 uint32_t np_desk_unmap(np_desk *desk, uint64_t start, uint64_t length);
