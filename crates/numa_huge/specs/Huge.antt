@@ -173,3 +173,10 @@ huge_at runs page = spot_in (page_at runs page)
 -- what is kept, as it is told
 abbrev pub places_of : HugePlaced → HugeLying
 places_of placed = record { pools = placed.pools; spots = huge_at placed.runs }
+
+-- a span is mapped by these runs, of so many pages, which are reserved or aren't
+abbrev pub mapped_by : ℕ → Bool → List (Run HugeSpot) → HugePlaced → HugePlaced
+mapped_by pages reserves runs placed = record {
+  pools = if reserves then reserving placed.pools pages else placed.pools;
+  runs = runs;
+}

@@ -1,11 +1,14 @@
 -- What is kept of pages of 2 MiB, whatever was done.
-use Rattle.std.specs.Prelude.{◌≡◌, ℕ, ◌+◌, ◌<◌, ◌≤◌, Option, Some, None, List, false}
+use Rattle.std.specs.Prelude.{◌≡◌, ℕ, ◌+◌, ◌<◌, ◌≤◌, Bool, Option, Some, None, List, false}
 use Rattle.numa_mask.specs.NodeSet.{has}
 use Rattle.numa_ranges.specs.Runs.{page_at}
 use Rattle.numa_ranges.specs.declared.run.Run.{Run}
 use Rattle.numa_placed.specs.Shifts.{ArePages}
 use Rattle.numa_pools.specs.Pools.{PoolCounts, free_at, total_at}
-use Rattle.numa_huge.specs.Huge.{HugeLying, has_reserved, huge_at, most_pages, on_node, pages_of}
+use Rattle.numa_ranges.specs.Ranges.{Ranges}
+use Rattle.numa_placed.specs.Spots.{most_runs}
+use Rattle.numa_huge.specs.Huge.{HugeLying, HugePlaced, has_reserved, huge_at, mapped_by}
+use Rattle.numa_huge.specs.Huge.{most_pages, on_node, pages_of}
 use Rattle.numa_huge.specs.Moves.{count_on}
 use Rattle.numa_huge.specs.declared.spot.HugeSpot.{HugeSpot}
 use Rattle.numa_huge.specs.declared.spot.HugeSpot.TheVariants.{Bare, Reserved, On}
@@ -61,3 +64,10 @@ Keeps old new = (others : Others) → ArePooled others old.pools old.spots
 -- pools have the pages of a process, beside those of others
 abbrev pub HavePages : PoolCounts → (ℕ → Option HugeSpot) → Type 0
 HavePages pools spots = (others : Others) × ArePooled others pools spots
+
+-- pages may be mapped by these runs: what was kept stays so
+pub record MayMapBy (old : HugePlaced) (pages : ℕ) (reserves : Bool) (map : Ranges HugeSpot) :
+    Type 0 where
+  pub kept : (others : Others) → AreKept others old.pools old.runs
+      → AreKept others (mapped_by pages reserves map.runs old).pools map.runs
+  pub most : map.max_ranges ≡ most_runs

@@ -1,13 +1,17 @@
 //! Pages of 2 MiB of a process, and what the last move and the last first touches did to them.
-ghost use Rattle.std.specs.Prelude.{◌≡◌, IfOk, Option, None};
-ghost use Rattle.numa_huge.specs.Huge.{places_of};
+ghost use Rattle.std.specs.Prelude.{◌≡◌, ◌≤◌, IfOk, Option, None, true};
+ghost use Rattle.numa_pools.specs.Pools.{unreserved};
+ghost use Rattle.numa_huge.specs.Huge.{mapped_by, places_of};
+ghost use Rattle.numa_huge.specs.Kept.{MayMapBy};
 ghost use Rattle.numa_huge.specs.Moves.{HugeMemory, memory_or, stayed};
 ghost use Rattle.numa_huge.specs.Tallies.{IsMemory};
 
 use crate::arrived::HugeArrived;
 use crate::last::{HugeLast, still};
 use crate::places::HugePlaces;
+use crate::spot::HugeSpot;
 use numa_machine::{Machine, NoMemory};
+use numa_ranges::RangeMap;
 use std::alloc::Global;
 
 /// The pages of 2 MiB of a process with the pools that they come from; what the last move did to
@@ -82,5 +86,15 @@ impl HugePages {
             → IsMemory self.new (record memory { pages = places_of after }) }
     {
         drop(std::mem::replace(&mut self.places, after));
+    }
+
+    /// A span is mapped from now on ([`HugePlaces::map_by`]).
+    pub fn map_by(&mut self, map: RangeMap<HugeSpot>, pages: u64, reserves: bool)
+        requires room { reserves ≡ true → pages ≤ unreserved self.old.places.pools }
+        requires may { MayMapBy self.old.places pages reserves map }
+        ensures { (memory : HugeMemory) → IsMemory self.old memory → IsMemory self.new (record
+            memory { pages = places_of (mapped_by pages reserves map.runs self.old.places) }) }
+    {
+        self.places.map_by(map, pages, reserves);
     }
 }

@@ -1,17 +1,18 @@
 //! Pages of 2 MiB that are mapped, and unmapped.
 ghost use Rattle.std.specs.Prelude.{◌≡◌, ◌≢◌, ◌+◌, ◌≤◌, ◌<◌, ℕ, IfOk, IfErr, None, Some, true};
-ghost use Rattle.std.specs.Prelude.{if◌then◌else◌, slice_index};
+ghost use Rattle.std.specs.Prelude.{if◌then◌else◌, false, slice_index};
 ghost use Rattle.numa_pools.specs.Pools.{free_at, reserving, total_at, unreserved};
-ghost use Rattle.numa_huge.specs.Huge.{fits, freeing_below, fresh_spot, huge_at, mapping};
-ghost use Rattle.numa_huge.specs.Huge.{places_of, most_pages, unmapping, with_span};
-ghost use Rattle.numa_huge.specs.Kept.{Keeps};
+ghost use Rattle.numa_huge.specs.Huge.{fits, freeing_below, fresh_spot, huge_at, mapped_by};
+ghost use Rattle.numa_huge.specs.Huge.{mapping, most_pages, places_of, too_many, unmapping};
+ghost use Rattle.numa_huge.specs.Huge.{with_span};
+ghost use Rattle.numa_huge.specs.Kept.{Keeps, MayMapBy};
 ghost use Rattle.numa_huge.specs.Tallies.{IsLackFor, lack_of};
 
 use crate::counts::counts_of;
 use crate::places::HugePlaces;
 use crate::spot::HugeSpot;
 use numa_pools::Pools;
-use numa_ranges::RangeError;
+use numa_ranges::{RangeError, RangeMap};
 use numa_requests::PlacedRefusal;
 
 /// Why a change of runs is refused, for their number or for memory.
@@ -47,6 +48,48 @@ pub(crate) fn free_all(pools: &mut Pools, on: &[u64; 256])
 }
 
 impl HugePlaces {
+    /// The runs of the pages once a span is mapped, whose pages are reserved or aren't: `map_by`
+    /// maps it.
+    ///
+    /// # Errors
+    /// `TooManyRuns`, `NoMemory`, as [`PlacedRefusal`] says. `NoMemory` can come first.
+    pub fn mapped_runs(
+        &self,
+        first: u64,
+        pages: u64,
+        reserves: bool,
+    ) -> Result<RangeMap<HugeSpot>, PlacedRefusal>
+        requires fits { fits (huge_at self.now.runs) first pages ≡ true }
+        ensures ok { IfOk result (λ map. places_of (mapped_by pages reserves map.runs self.now)
+            ≡ mapping first pages reserves (places_of self.now)) }
+        ensures may { IfOk result (λ map. MayMapBy self.now pages reserves map) }
+        ensures few { IfOk result (λ map. too_many (huge_at map.runs) ≡ false) }
+        ensures err { IfErr result (IsLackFor (with_span first pages (Some (fresh_spot reserves))
+            (huge_at self.now.runs))) }
+    {
+        let Ok(mut map) = self.map.copy() else {
+            return Err(PlacedRefusal::NoMemory);
+        };
+        if let Err(refusal) = map.map_span(first, pages, first, HugeSpot::fresh(reserves)) {
+            return Err(lack_of(refusal));
+        }
+        // Tells the proof that the runs are few.
+        let _ = map.len();
+        Ok(map)
+    }
+
+    /// Maps a span by the runs that [`HugePlaces::mapped_runs`] gave, and reserves so many pages,
+    /// if they are to be.
+    pub fn map_by(&mut self, map: RangeMap<HugeSpot>, pages: u64, reserves: bool)
+        requires room { reserves ≡ true → pages ≤ unreserved self.old.pools }
+        requires may { MayMapBy self.old pages reserves map }
+        ensures is { self.new ≡ mapped_by pages reserves map.runs self.old }
+        ensures keeps { Keeps (places_of self.old) (places_of self.new) }
+    {
+        reserve_if(&mut self.pools, reserves, pages);
+        drop(std::mem::replace(&mut self.map, map));
+    }
+
     /// The pages once a span is mapped, whose pages are reserved or aren't.
     ///
     /// # Errors
@@ -65,12 +108,10 @@ impl HugePlaces {
         ensures err { IfErr result (IsLackFor (with_span first pages (Some (fresh_spot reserves))
             (huge_at self.now.runs))) }
     {
-        let Ok(mut map) = self.map.copy() else {
-            return Err(PlacedRefusal::NoMemory);
+        let map = match self.mapped_runs(first, pages, reserves) {
+            Ok(map) => map,
+            Err(why) => return Err(why),
         };
-        if let Err(refusal) = map.map_span(first, pages, first, HugeSpot::fresh(reserves)) {
-            return Err(lack_of(refusal));
-        }
         let mut pools = self.pools;
         reserve_if(&mut pools, reserves, pages);
         Ok(HugePlaces { pools, map })

@@ -1,115 +1,38 @@
-use Rattle.std.proofs.Common.{◌≡◌, ℕ, ◌≤◌, ◌∙◌, ap, arith, List, subst, sym, true, Some}
+use Rattle.std.proofs.Common.{◌≡◌, ℕ, ◌≤◌, ◌∙◌, ap, subst, sym}
 use Rattle.std.specs.Prelude.{if◌then◌else◌}
-use Rattle.numa_ranges.specs.Ranges.{Ranges}
-use Rattle.numa_ranges.specs.declared.run.Run.{Run}
-use Rattle.numa_requests.specs.declared.page_refusal.PlacedRefusal.{PlacedRefusal}
-use Rattle.numa_pools.specs.Pools.{reserving, unreserved}
-use Rattle.numa_huge.specs.Huge.{HugePlaced, fits, fresh_spot, huge_at, with_span}
-use Rattle.numa_huge.specs.Kept.{AreKept}
-use Rattle.numa_huge.specs.Tallies.{IsLackFor, lack_of}
-use Rattle.numa_huge.specs.declared.spot.HugeSpot.{HugeSpot}
-use Rattle.numa_huge.proofs.Keeping.{IsFit, fits-are, keeps-shown, kept-mapped, lying-is}
-use Rattle.numa_huge.proofs.Own.{lack-map, spots-mapped}
+use Rattle.numa_pools.specs.Pools.{PoolCounts, reserving, unreserved}
+use Rattle.numa_huge.specs.Huge.{HugeLying, HugePlaced, huge_at}
+use Rattle.numa_huge.specs.Kept.{AreKept, ArePooled}
 use Rattle.numa_huge.proofs.places.HugePlaces.mapped.Goals as goal
-
--- the copy's pages fit as those that are shown
-fit-of : (map inside : Ranges HugeSpot) (shown : List (Run HugeSpot)) (first n : ℕ) → map ≡ inside
-    → inside.runs ≡ shown → fits (huge_at shown) first n ≡ true → IsFit (huge_at map.runs) first n
-fit-of map inside shown first n copied is fit =
-    fits-are (huge_at map.runs) first n
-    (subst (λ (runs : List (Run HugeSpot)). fits (huge_at runs) first n ≡ true)
-    (sym (ap (λ (m : Ranges HugeSpot). m.runs) copied ∙ is)) fit)
-
-pub map_span-requires-clause-span : goal.map_span-requires-clause-span
-map_span-requires-clause-span c =
-    let fit = fit-of c.in-Ok.map c.self.inside.map c.args.self.now.runs c.args.first c.args.pages
-    c.in-Ok.ensures (ap (λ (p : HugePlaced). p.runs) c.self.view_is) c.requires.fits in
-    record { some = fit.some; within = omega (arith, fit.within) }
-
-pub map_span-requires-clause-index : goal.map_span-requires-clause-index
-map_span-requires-clause-index c =
-    let fit = fit-of c.in-Ok.map c.self.inside.map c.args.self.now.runs c.args.first c.args.pages
-    c.in-Ok.ensures (ap (λ (p : HugePlaced). p.runs) c.self.view_is) c.requires.fits in
-    omega (arith, fit.within)
 
 pub reserve_if-requires : goal.reserve_if-requires
 reserve_if-requires c asked =
     subst (λ (p : HugePlaced). c.args.pages ≤ unreserved p.pools) (sym c.self.view_is)
     (c.requires.room asked)
 
-pub returns-in-Err-clause-err : goal.returns-in-Err-clause-err
-returns-in-Err-clause-err c =
-    let map = c.in-Ok.map in
-    let first = c.args.first in
-    let n = c.args.pages in
-    let fit = fit-of map c.self.inside.map c.args.self.now.runs first n
-    c.in-Ok.ensures (ap (λ (p : HugePlaced). p.runs) c.self.view_is) c.requires.fits in
-    let own = subst (λ (m : Ranges HugeSpot). AreKept c.self.invariant.0 c.self.inside.pools m.runs)
-    (sym c.in-Ok.ensures) c.self.invariant.1 in
-    subst (λ (why : PlacedRefusal). IsLackFor (with_span first n
-    (Some (fresh_spot c.args.reserves)) (huge_at c.args.self.now.runs)) why)
-    (sym c.lack_of.ensures)
-    (subst (λ (spot : HugeSpot). IsLackFor (with_span first n (Some spot)
-    (huge_at c.args.self.now.runs)) (lack_of c.in-Err.refusal)) c.fresh.ensures
-    (subst (λ (runs : List (Run HugeSpot)). IsLackFor (with_span first n (Some c.fresh.result)
-    (huge_at runs)) (lack_of c.in-Err.refusal))
-    (ap (λ (m : Ranges HugeSpot). m.runs) c.in-Ok.ensures
-    ∙ ap (λ (p : HugePlaced). p.runs) c.self.view_is)
-    (lack-map map.runs first n map.max_ranges c.in-Err.refusal own.own
-    (ap (λ (m : Ranges HugeSpot). m.max_ranges) c.in-Ok.ensures ∙ c.self.invariant.2)
-    c.fresh.result fit.free c.in-Err.ensures.err)))
-
 pub invariant_of-result : goal.invariant_of-result
-invariant_of-result c =
-    let map = c.in-Ok.map in
-    let fit = fit-of map c.self.inside.map c.args.self.now.runs c.args.first c.args.pages
-    c.in-Ok.ensures (ap (λ (p : HugePlaced). p.runs) c.self.view_is) c.requires.fits in
-    let kept = subst (λ (m : Ranges HugeSpot).
-    AreKept c.self.invariant.0 c.self.inside.pools m.runs)
-    (sym c.in-Ok.ensures) c.self.invariant.1 in (
-      c.self.invariant.0,
-      kept-mapped c.self.invariant.0 c.self.inside.pools c.reserve_if.new.pools map.runs
-          c.map_span.new.self.runs c.args.first c.args.pages c.args.reserves c.fresh.result fit
-          kept c.fresh.ensures c.in_default-map_span.ensures.ok c.reserve_if.ensures,
-      c.map_span.ensures.max_ranges
-          ∙ ap (λ (m : Ranges HugeSpot). m.max_ranges) c.in-Ok.ensures ∙ c.self.invariant.2,
-    )
+invariant_of-result c = (
+  c.self.invariant.0,
+  subst (λ (p : PoolCounts). AreKept c.self.invariant.0 p c.in-Ok.map.runs)
+      (sym (c.reserve_if.ensures ∙ ap (λ (p : HugePlaced). if c.args.reserves
+      then reserving p.pools c.args.pages else p.pools) c.self.view_is))
+      (c.in-Ok.ensures.may.kept c.self.invariant.0 (subst (λ (p : HugePlaced).
+      AreKept c.self.invariant.0 p.pools p.runs) c.self.view_is c.self.invariant.1)),
+  c.in-Ok.ensures.may.most,
+)
 
 pub returns-clause-ok : goal.returns-clause-ok
 returns-clause-ok c =
-    let map = c.in-Ok.map in
-    let first = c.args.first in
-    let n = c.args.pages in
-    lying-is c.reserve_if.new.pools (if c.args.reserves
-    then reserving c.args.self.now.pools n else c.args.self.now.pools)
-    (huge_at c.map_span.new.self.runs)
-    (with_span first n (Some (fresh_spot c.args.reserves)) (huge_at c.args.self.now.runs))
+    ap {B = HugeLying} (λ (p : PoolCounts). record { pools = p; spots = huge_at c.in-Ok.map.runs })
     (c.reserve_if.ensures ∙ ap (λ (p : HugePlaced). if c.args.reserves
-    then reserving p.pools n else p.pools) c.self.view_is)
-    (λ page. spots-mapped map.runs c.map_span.new.self.runs first n c.fresh.result
-    c.in_default-map_span.ensures.ok page
-    ∙ ap (λ (spot : HugeSpot). with_span first n (Some spot) (huge_at map.runs) page)
-    c.fresh.ensures
-    ∙ ap (λ (m : Ranges HugeSpot). with_span first n (Some (fresh_spot c.args.reserves))
-    (huge_at m.runs) page) c.in-Ok.ensures
-    ∙ ap (λ (p : HugePlaced). with_span first n (Some (fresh_spot c.args.reserves))
-    (huge_at p.runs) page) c.self.view_is)
+    then reserving p.pools c.args.pages else p.pools) c.self.view_is)
+    ∙ c.in-Ok.ensures.ok
 
 pub returns-clause-keeps : goal.returns-clause-keeps
-returns-clause-keeps c =
-    let map = c.in-Ok.map in
-    let fit = fit-of map c.self.inside.map c.args.self.now.runs c.args.first c.args.pages
-    c.in-Ok.ensures (ap (λ (p : HugePlaced). p.runs) c.self.view_is) c.requires.fits in
-    keeps-shown (record { pools = c.self.inside.pools; runs = map.runs }) c.args.self.now
-    (record { pools = c.reserve_if.new.pools; runs = c.map_span.new.self.runs })
-    (ap (λ (m : Ranges HugeSpot). record { pools = c.self.inside.pools; runs = m.runs })
-    c.in-Ok.ensures ∙ c.self.view_is)
-    (λ others pooled. (kept-mapped others c.self.inside.pools c.reserve_if.new.pools map.runs
-    c.map_span.new.self.runs c.args.first c.args.pages c.args.reserves c.fresh.result fit
-    (record {
-      own = (subst (λ (m : Ranges HugeSpot).
-          AreKept c.self.invariant.0 c.self.inside.pools m.runs)
-          (sym c.in-Ok.ensures) c.self.invariant.1).own;
-      pooled = pooled;
-    })
-    c.fresh.ensures c.in_default-map_span.ensures.ok c.reserve_if.ensures).pooled)
+returns-clause-keeps c others pooled =
+    let own = (subst (λ (p : HugePlaced). AreKept c.self.invariant.0 p.pools p.runs)
+    c.self.view_is c.self.invariant.1).own in
+    subst (λ (p : PoolCounts). ArePooled others p (huge_at c.in-Ok.map.runs))
+    (sym (c.reserve_if.ensures ∙ ap (λ (p : HugePlaced). if c.args.reserves
+    then reserving p.pools c.args.pages else p.pools) c.self.view_is))
+    (c.in-Ok.ensures.may.kept others (record { own = own; pooled = pooled })).pooled
