@@ -207,12 +207,10 @@ impl Running {
         if !kept.places.fits(first, pages) {
             return self.accept(command);
         }
-        let after = match kept.places.mapped(first, pages, reserves) {
+        let after = match kept.places.mapped_runs(first, pages, reserves) {
             Ok(after) => after,
             Err(why) => return command_reply(why),
         };
-        // Tells the proof that its runs aren't too many.
-        let _ = after.runs();
         let answer = self.core.accept(command);
         if answer.is_err() {
             drop(after);
@@ -221,7 +219,7 @@ impl Running {
         let Some(kept) = &mut self.huge else {
             unreachable!()
         };
-        kept.settle(after);
+        kept.map_by(after, pages, reserves);
         accept_reply(answer)
     }
 
