@@ -14,6 +14,7 @@ use Rattle.numa_space.specs.Steps.{scene_in}
 use Rattle.numa_space.specs.Refusals.{refusal_in, refusal_of}
 use Rattle.numa_space.proofs.Refused.{refusal-same}
 use Rattle.numa_space.proofs.Answers.{answer-kept, AnswersBy, stands-next}
+use Rattle.numa_space.proofs.Aligned.{aligned-answer}
 use Rattle.numa_space.proofs.InForce.{sound-answer}
 use Rattle.numa_space.proofs.Small.{maps_huge, small-answer}
 
@@ -55,6 +56,7 @@ kept-answer {A} old new command result kept limit nodes sizes answer =
       nodes = nodes ∙ kept.nodes ∙ sym (ap (λ (m : Hardware). m.nodes) same.0);
       sizes = λ none. small-answer (shown_of old) (shown_of new) command result (sizes none).1
           (kept.sizes (sizes none).0) answer;
+      aligned = aligned-answer (shown_of old) (shown_of new) command result kept.aligned answer;
       memory = omega (arith, kept.memory, ap (λ (m : Hardware). m.memory) same.0);
       of_the_machine = let P : Hardware → Type 0 =
           λ m. All (λ node. node < m.nodes) (members m.memory) in

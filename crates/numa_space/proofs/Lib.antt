@@ -18,6 +18,7 @@ pub mod Accepted
 pub mod NodeLists
 pub mod InForce
 pub mod Small
+pub mod Aligned
 pub mod Kept
 pub mod Chosen
 pub mod Looked

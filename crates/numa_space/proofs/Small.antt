@@ -73,7 +73,7 @@ map-few Linux start bytes none =
     omega (arith, within)
 
 -- so their indexes are those of such pages
-map-small : (old : SpaceState) (start bytes offset page : ℕ)
+pub map-small : (old : SpaceState) (start bytes offset page : ℕ)
     → refusal_in (scene_in old (Map start bytes offset Small)) (Map start bytes offset Small) ≡ None
     → in_pages (page_of start) (page_count bytes) page ≡ true
     → is_part (offset + (page - page_of start)) ≡ false

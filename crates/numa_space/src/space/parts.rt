@@ -69,6 +69,9 @@ impl Space {
         if !self.has_huge {
             return None;
         }
+        if page % 512 == 0 {
+            return None;
+        }
         self.pages.inside_of(page)
     }
 

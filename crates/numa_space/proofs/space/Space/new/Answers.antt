@@ -1,6 +1,6 @@
 -- A new space stands for the history without commands.
 use Rattle.std.proofs.Common.{◌≡◌, [], ◌∙◌, false, IfSome, ap, refl, rules, subst, sym}
-use Rattle.numa_machine.specs.Sizes.{is_part}
+use Rattle.numa_machine.specs.Sizes.{is_inside, is_part}
 use Rattle.numa_ranges.specs.Runs.{page_at}
 use Rattle.numa_space.specs.Edits.{PageRanges}
 use Rattle.numa_space.proofs.InForce.{sound-new}
@@ -16,6 +16,8 @@ invariant_of-result c = record {
   nodes = search rules;
   memory = search rules;
   sizes = λ none page. subst (λ runs. IfSome (page_at runs page) (λ at. is_part at.0 ≡ false))
+      (sym (ap (λ (p : PageRanges). p.runs) c.new.ensures)) tt;
+  aligned = λ page even. subst (λ runs. IfSome (page_at runs page) (λ at. is_inside at.0 ≡ false))
       (sym (ap (λ (p : PageRanges). p.runs) c.new.ensures)) tt;
   of_the_machine = search rules;
 }
