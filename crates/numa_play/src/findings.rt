@@ -1,10 +1,16 @@
 //! Reporting what is wrong with the lines of scripts as they are played.
-ghost use Rattle.std.specs.Prelude.{◌≡◌};
+ghost use Rattle.std.specs.Prelude.{◌≡◌, OnOk};
+ghost use Rattle.numa_host_script.specs.Sessions.{Session};
+ghost use Rattle.numa_host_script.specs.Taking.{SessionStandsFor};
+ghost use Rattle.numa_play.specs.Deeds.{CarriesLine};
+ghost use Rattle.numa_script.specs.Lines.{line_of};
 ghost use Rattle.numa_subjects.specs.Faults.{ended_by, has_faults};
 
-use crate::found_objects::{Message, Said, put_message, put_unjudged, say_message, words_of};
+use crate::found_objects::{
+    Message, Said, put_message, put_unjudged, say_message, say_unnamed, words_of,
+};
 use crate::huge::{HugeCount, remark_on};
-use crate::judging::judge;
+use crate::judging::{is_at, is_spent, judge_behind};
 use crate::named::{Named, TasksNamed};
 use crate::twin::TwinScript;
 use numa_diagnose::{Detail, Finding, HostHint, LineAt, hint_in, hint_of, say_unjudged};
@@ -12,11 +18,9 @@ use numa_host_script::HostScript;
 use numa_lines::{RunFault, TakeLine, Watched};
 use numa_machine::Rules;
 use numa_mask::parts::first_place;
-use numa_requests::{CoreRefusal, HostRefusal, Refusal};
-use numa_rules::Text;
 use numa_run::Script;
+use numa_script::ScriptLine;
 use numa_script::line::parse;
-use numa_script::{Line, PageLine, Reply, ScriptLine};
 use numa_sheets::Format;
 use numa_subjects::{Ended, Twin};
 use std::alloc::{AllocError, Global};
@@ -57,9 +61,9 @@ pub const PLAIN: Look = Look {
 /// refusal and, with hints, one for each line that a running kernel would treat differently.
 pub struct Findings<W> {
     pub(crate) alloc: Global,
-    script: HostScript,
+    pub(crate) script: HostScript,
     // The same script by the other rules, if requested.
-    other: TwinScript,
+    pub(crate) other: TwinScript,
     look: Look,
     // What lines name.
     named: Named,
@@ -146,7 +150,9 @@ impl<W: Write> Findings<W> {
     }
 
     /// Notes what a line names.
-    fn note(&mut self, said: &ScriptLine<'_>) {
+    fn note(&mut self, said: &ScriptLine<'_>)
+        ensures { self.new.script ≡ self.old.script }
+    {
         let is_ready = is_ready(self.script());
         self.named.note(said, is_ready);
     }
@@ -191,7 +197,9 @@ impl<W: Write> Findings<W> {
     }
 
     /// Writes a message about a line.
-    fn say(&mut self, message: Message<'_>) -> Result<(), RunFault> {
+    fn say(&mut self, message: Message<'_>) -> Result<(), RunFault>
+        ensures { self.new.script ≡ self.old.script }
+    {
         self.text.clear();
         let text = &mut self.text;
         let said = match self.look.format {
@@ -206,7 +214,9 @@ impl<W: Write> Findings<W> {
     }
 
     /// Writes what was found in a line, or that a text is binary.
-    fn tell<'a>(&mut self, name: &'a str, place: u64, said: Said<'a>) -> Result<(), RunFault> {
+    fn tell<'a>(&mut self, name: &'a str, place: u64, said: Said<'a>) -> Result<(), RunFault>
+        ensures { self.new.script ≡ self.old.script }
+    {
         let at = LineAt { name, place };
         if let Err(why) = self.say(Message { at, said }) {
             return Err(why);
@@ -229,12 +239,9 @@ impl<W: Write> Findings<W> {
     }
 
     /// Writes what a kernel would do differently with a line, if anything.
-    fn tell_hint(
-        &mut self,
-        name: &str,
-        place: u64,
-        hint: Option<HostHint>,
-    ) -> Result<(), RunFault> {
+    fn tell_hint(&mut self, name: &str, place: u64, hint: Option<HostHint>) -> Result<(), RunFault>
+        ensures { self.new.script ≡ self.old.script }
+    {
         let Some(hint) = hint else {
             return Ok(());
         };
@@ -248,7 +255,9 @@ impl<W: Write> Findings<W> {
 
     /// Drops the script by the other rules if a line chooses rules, where it is played only unless
     /// one does.
-    fn heed_rules(&mut self) {
+    fn heed_rules(&mut self)
+        ensures { self.new.script ≡ self.old.script }
+    {
         if self.look.other == Twin::UnlessChosen && self.named.has_rules() {
             self.other.leave();
         }
@@ -333,45 +342,11 @@ impl<W: Write> Findings<W> {
     }
 }
 
-/// Appends that lines name these tasks, and not this one.
-fn say_unnamed(text: &mut Vec<u8>, task: u32, tasks: TasksNamed) -> Result<(), AllocError> {
-    let mut written = Text::of(text);
-    written.put_number("task ", u64::from(task));
-    written.put(" has no policy: no line names it");
-    match tasks {
-        TasksNamed::Nobody => {}
-        TasksNamed::One(first) => written.put_number("; lines name task ", u64::from(first)),
-        TasksNamed::Several(first, second) => {
-            written.put_number("; lines name tasks, as ", u64::from(first));
-            written.put_number(" and ", u64::from(second));
-        }
-    }
-    written.put("\n");
-    written.end(text)
-}
-
 /// Whether a machine is ready.
 fn is_ready(script: &HostScript) -> bool {
     match script.script() {
         Some(script) => script.core().is_some(),
         None => true,
-    }
-}
-
-/// Whether a line is refused only for the number of commands, as by a kernel's rules too.
-fn is_spent(finding: &Finding) -> bool {
-    match finding.fault {
-        Reply::Refused(cause) => cause == CoreRefusal::Command(Refusal::CommandsSpent),
-        Reply::HostRefused(refusal) => refusal == HostRefusal::CommandsSpent,
-        _ => false,
-    }
-}
-
-/// Whether a line says where pages lie.
-fn is_at(said: &ScriptLine<'_>) -> bool {
-    match said.line {
-        Line::Pages(Ok(PageLine::At { .. })) => true,
-        _ => false,
     }
 }
 
@@ -418,7 +393,9 @@ impl<W: Write> Findings<W> {
         place: u64,
         finding: &Finding,
         hint: Option<HostHint>,
-    ) -> Result<(), RunFault> {
+    ) -> Result<(), RunFault>
+        ensures { self.new.script ≡ self.old.script }
+    {
         if let Detail::NoMachine = finding.detail {
             self.unjudged = self.unjudged.saturating_add(1);
             return Ok(());
@@ -432,19 +409,24 @@ impl<W: Write> Findings<W> {
         }
     }
 
-    /// Plays a line, and writes what is wrong with it, and what a kernel would do differently.
+    /// Plays a line that stands behind so many bytes, and writes what is wrong with it, and what a
+    /// kernel would do differently.
     fn judge_line(
         &mut self,
         name: &str,
         place: u64,
         line: &[u8],
         said: &ScriptLine<'_>,
-    ) -> Result<(), RunFault> {
+        before: usize,
+    ) -> Result<(), RunFault>
+        ensures { (session : Session) → SessionStandsFor self.old.script session → OnOk result
+            (CarriesLine said.now session self.new.script) }
+    {
         let hint = match self.hint(said) {
             Ok(hint) => hint,
             Err(why) => return Err(why),
         };
-        let Some(finding) = judge(self.alloc, &mut self.script, line, said) else {
+        let Some(finding) = judge_behind(self.alloc, &mut self.script, line, said, before) else {
             self.has_fine = self.has_fine || !line.is_empty();
             return self.tell_hint(name, place, hint);
         };
@@ -456,6 +438,26 @@ impl<W: Write> Findings<W> {
         }
         self.tell_found(name, place, &finding, hint)
     }
+
+    /// Plays a line by these rules and the others, and writes what is wrong with it.
+    pub(crate) fn play_line(
+        &mut self,
+        name: &str,
+        place: u64,
+        line: &[u8],
+        before: usize,
+    ) -> Result<(), RunFault>
+        ensures { (session : Session) → SessionStandsFor self.old.script session → OnOk result
+            (CarriesLine (line_of line.now) session self.new.script) }
+    {
+        let said = parse(line);
+        self.note(&said);
+        self.heed_rules();
+        match self.other.follow(&self.script, line, &said) {
+            Ok(()) => self.judge_line(name, place, line, &said, before),
+            Err(why) => Err(why),
+        }
+    }
 }
 
 impl<W: Write> TakeLine<()> for Findings<W> {
@@ -463,13 +465,7 @@ impl<W: Write> TakeLine<()> for Findings<W> {
         if self.is_binary(name, place, line)? {
             return Ok(());
         }
-        let said = parse(line);
-        self.note(&said);
-        self.heed_rules();
-        match self.other.follow(&self.script, line, &said) {
-            Ok(()) => self.judge_line(name, place, line, &said),
-            Err(why) => Err(why),
-        }
+        self.play_line(name, place, line, 0)
     }
 
     fn hand_over(&mut self, _output: &mut ()) -> Result<(), RunFault> {

@@ -1,10 +1,11 @@
 //! Messages about lines, as text or as lines of JSON.
 ghost use Rattle.std.specs.Prelude.{◌≤◌, length};
 
+use crate::named::TasksNamed;
 use numa_diagnose::{
     BINARY, Finding, HostHint, LineAt, say_binary, say_finding, say_hint_line, say_line,
 };
-use numa_rules::say_otherwise;
+use numa_rules::{Text, say_otherwise};
 use numa_sheets::Object;
 use std::alloc::{AllocError, Global};
 
@@ -161,4 +162,25 @@ pub(crate) fn put_unjudged(
     object.put_text("kind", "unjudged");
     object.put_number("lines", count);
     object.say_line(text)
+}
+
+/// Appends that lines name these tasks, and not this one.
+pub(crate) fn say_unnamed(
+    text: &mut Vec<u8>,
+    task: u32,
+    tasks: TasksNamed,
+) -> Result<(), AllocError> {
+    let mut written = Text::of(text);
+    written.put_number("task ", u64::from(task));
+    written.put(" has no policy: no line names it");
+    match tasks {
+        TasksNamed::Nobody => {}
+        TasksNamed::One(first) => written.put_number("; lines name task ", u64::from(first)),
+        TasksNamed::Several(first, second) => {
+            written.put_number("; lines name tasks, as ", u64::from(first));
+            written.put_number(" and ", u64::from(second));
+        }
+    }
+    written.put("\n");
+    written.end(text)
 }

@@ -5,11 +5,12 @@ ghost use Rattle.numa_script.specs.declared.line.Line.TheVariants as line;
 ghost use Rattle.numa_play.specs.Checks.{Checks, Judged};
 ghost use Rattle.numa_play.specs.Turned.{rules_instead, turned};
 
-use numa_diagnose::{Finding, finding_in, finding_in_host};
+use numa_diagnose::{Detail, Finding, finding_in, finding_in_host};
 use numa_host_script::HostScript;
 use numa_machine::Rules;
+use numa_requests::{CoreRefusal, HostRefusal, Refusal};
 use numa_rules::other_rules;
-use numa_script::{Line, Reply, ScriptLine};
+use numa_script::{Line, Malformed, PageLine, Reply, ScriptLine};
 use numa_space::Space;
 use std::alloc::Global;
 
@@ -48,6 +49,45 @@ pub fn judge(
     }
 }
 
+/// Why a line is malformed, where it stands behind so many bytes.
+fn malformed_behind(malformed: Malformed, before: usize) -> Malformed {
+    Malformed {
+        cause: malformed.cause,
+        column: malformed.column.saturating_add(before),
+    }
+}
+
+/// What is wrong with a line, with the column where it stands behind so many bytes.
+fn detail_behind(detail: Detail, before: usize) -> Detail {
+    match detail {
+        Detail::Malformed(malformed) => Detail::Malformed(malformed_behind(malformed, before)),
+        Detail::MalformedMore(malformed) => {
+            Detail::MalformedMore(malformed_behind(malformed, before))
+        }
+        _ => detail,
+    }
+}
+
+/// The same as `judge`, of a line that stands behind so many bytes.
+pub(crate) fn judge_behind(
+    alloc: Global,
+    script: &mut HostScript,
+    line: &[u8],
+    said: &ScriptLine<'_>,
+    before: usize,
+) -> Option<Finding>
+    ensures { Checks script.old said.now result script.new }
+{
+    match judge(alloc, script, line, said) {
+        None => None,
+        Some(finding) => Some(Finding {
+            fault: finding.fault,
+            detail: detail_behind(finding.detail, before),
+            process: finding.process,
+        }),
+    }
+}
+
 /// The rules that a line chooses instead where it chooses the others.
 fn rules_instead(said: &Line<'_>) -> Option<Rules>
     ensures { result ≡ rules_instead said.now }
@@ -81,5 +121,22 @@ pub(crate) fn judge_by_other(
     match rules_instead(&said.line) {
         Some(rules) => script.judge(alloc, &rules_line(rules)),
         None => script.judge(alloc, said),
+    }
+}
+
+/// Whether a line is refused only for the number of commands, as by a kernel's rules too.
+pub(crate) fn is_spent(finding: &Finding) -> bool {
+    match finding.fault {
+        Reply::Refused(cause) => cause == CoreRefusal::Command(Refusal::CommandsSpent),
+        Reply::HostRefused(refusal) => refusal == HostRefusal::CommandsSpent,
+        _ => false,
+    }
+}
+
+/// Whether a line says where pages lie.
+pub(crate) fn is_at(said: &ScriptLine<'_>) -> bool {
+    match said.line {
+        Line::Pages(Ok(PageLine::At { .. })) => true,
+        _ => false,
     }
 }

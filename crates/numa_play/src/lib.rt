@@ -14,13 +14,16 @@
 mod findings;
 mod foremost;
 mod found_objects;
+mod handing;
 mod huge;
 mod judging;
+mod landing;
 mod named;
 mod places;
 mod playing;
 mod question;
 mod touching;
+mod tracing;
 mod twin;
 
 pub use findings::{Findings, Look, PLAIN};

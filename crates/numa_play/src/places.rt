@@ -1,11 +1,11 @@
 //! Where a page lies after a script.
-ghost use Rattle.std.specs.Prelude.{◌≡◌, ℕ, IsSome, Option};
+ghost use Rattle.std.specs.Prelude.{◌≡◌, ℕ, IsSome, None, Option};
 ghost use Rattle.numa_page_state.specs.Lying.{Lying};
 ghost use Rattle.numa_page_state.specs.Standing.{Lies};
 ghost use Rattle.numa_placed.specs.Spots.{node_of};
 ghost use Rattle.numa_host_script.specs.Hosts.{Hosting};
 ghost use Rattle.numa_host_script.specs.Paging.{pages_at};
-ghost use Rattle.numa_host_script.specs.Sessions.{Hosted};
+ghost use Rattle.numa_host_script.specs.Sessions.{Hosted, Single};
 ghost use Rattle.numa_host_script.specs.Taking.{SessionStandsFor};
 ghost use Rattle.numa_play.specs.Places.{place_by, place_of, place_on};
 ghost use Rattle.numa_requests.specs.declared.placement.Placement.{Placement};
@@ -27,8 +27,10 @@ fn node_in(script: &Script, page: u64) -> Option<u8>
 
 /// Where a page of one process lies, if it is there: in the frame that it keeps, or where lines
 /// say.
-fn place_in(script: &Script, page: u64) -> Option<PagePlace>
-    ensures { (state : State) → ScriptStandsFor script.now state → IsSome state.machine
+pub(crate) fn place_in(script: &Script, page: u64) -> Option<PagePlace>
+    ensures none { (state : State) → ScriptStandsFor script.now state → state.machine ≡ None
+        → result ≡ None }
+    ensures place { (state : State) → ScriptStandsFor script.now state → IsSome state.machine
         → result ≡ place_of state.resident state.lying.spots page }
 {
     if let Some(placement) = script.resident()?.at(page) {
@@ -42,8 +44,9 @@ fn place_in(script: &Script, page: u64) -> Option<PagePlace>
 }
 
 /// Where a page of a process of a host lies, if it is there.
-fn place_of_process(script: &HostScript, process: u32, page: u64) -> Option<PagePlace>
-    ensures { (at : Hosting) → SessionStandsFor script.now (Hosted at)
+pub(crate) fn place_of_process(script: &HostScript, process: u32, page: u64) -> Option<PagePlace>
+    ensures alone { (state : State) → SessionStandsFor script.now (Single state) → result ≡ None }
+    ensures place { (at : Hosting) → SessionStandsFor script.now (Hosted at)
         → result ≡ place_on (node_of ((pages_at at process).spots page)) }
 {
     let Some(kept) = script.pages_of(process) else {

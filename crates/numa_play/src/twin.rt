@@ -116,7 +116,7 @@ pub(crate) struct TwinScript {
     alloc: Global,
     rules: Rules,
     // None where it isn't requested, and while it waits.
-    script: Option<HostScript>,
+    pub(crate) script: Option<HostScript>,
     // The lines so far, each with a line feed, while it waits.
     behind: Option<Vec<u8>>,
 }

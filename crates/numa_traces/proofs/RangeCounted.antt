@@ -10,7 +10,9 @@ use Rattle.numa_traces.specs.declared.access.Access.{Access}
 use Rattle.numa_traces.specs.declared.fault.ReplayError.{ReplayError}
 use Rattle.numa_traces.specs.declared.fault.ReplayError.TheVariants.{Malformed, Named, NoMemory}
 use Rattle.numa_traces.specs.declared.fault.ReplayError.TheVariants.{NoProcess, Refused, TooMany}
+use Rattle.numa_traces.specs.declared.fault.ReplayError.TheVariants.{Drawn, Huge, TooManyRuns}
 use Rattle.numa_traces.specs.declared.fault.ReplayError.TheVariants.{Unnamed}
+use Rattle.numa_traces.specs.declared.fault.ReplayError.TheVariants.{ByRange, WantsRoom}
 
 not-twice : (b : Bool) → not (not b) ≡ b
 not-twice true = refl
@@ -67,5 +69,10 @@ module _ (plan : PlanData) (access : Access) (old new : Replayed) (ranged : Rang
   counted-ends (Err (Refused r)) room full = absurd room
   counted-ends (Err (Malformed f)) room full = absurd room
   counted-ends (Err Unnamed) room full = absurd room
+  counted-ends (Err WantsRoom) room full = absurd room
+  counted-ends (Err ByRange) room full = absurd room
+  counted-ends (Err Drawn) room full = absurd room
+  counted-ends (Err Huge) room full = absurd room
+  counted-ends (Err TooManyRuns) room full = absurd room
   counted-ends (Err Named) room full = absurd room
   counted-ends (Err NoProcess) room full = absurd room

@@ -16,7 +16,9 @@ use Rattle.numa_traces.specs.declared.access.Access.{Access}
 use Rattle.numa_traces.specs.declared.fault.ReplayError.{ReplayError}
 use Rattle.numa_traces.specs.declared.fault.ReplayError.TheVariants.{Malformed, Named, NoMemory}
 use Rattle.numa_traces.specs.declared.fault.ReplayError.TheVariants.{NoProcess, Refused, TooMany}
+use Rattle.numa_traces.specs.declared.fault.ReplayError.TheVariants.{Drawn, Huge, TooManyRuns}
 use Rattle.numa_traces.specs.declared.fault.ReplayError.TheVariants.{Unnamed}
+use Rattle.numa_traces.specs.declared.fault.ReplayError.TheVariants.{ByRange, WantsRoom}
 
 pub on-ok : {A E : Type 0} {P Q : Type 0} (result : Result A E) → (P → Q) → OnOk result P
     → OnOk result Q
@@ -70,6 +72,11 @@ room-ends plan met access route first (Err NoMemory) none goes is room full = no
 room-ends plan met access route first (Err (Refused r)) none goes is room full = absurd room
 room-ends plan met access route first (Err (Malformed f)) none goes is room full = absurd room
 room-ends plan met access route first (Err Unnamed) none goes is room full = absurd room
+room-ends plan met access route first (Err WantsRoom) none goes is room full = absurd room
+room-ends plan met access route first (Err ByRange) none goes is room full = absurd room
+room-ends plan met access route first (Err Drawn) none goes is room full = absurd room
+room-ends plan met access route first (Err Huge) none goes is room full = absurd room
+room-ends plan met access route first (Err TooManyRuns) none goes is room full = absurd room
 room-ends plan met access route first (Err Named) none goes is room full = absurd room
 room-ends plan met access route first (Err NoProcess) none goes is room full = absurd room
 

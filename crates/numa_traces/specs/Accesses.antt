@@ -59,9 +59,22 @@ abbrev pub by_name : Option (List ℕ) → List ℕ → Result TraceLine AccessE
 by_name None line = line_with None (access_by (words_of line))
 by_name (Some rest) line = named_by (words_of rest)
 
--- what a line says that isn't silent
+-- a text, if it has a byte
+abbrev pub any_text : List ℕ → Option (List ℕ)
+any_text [] = None
+any_text (byte ∷ rest) = Some (byte ∷ rest)
+
+-- what stands behind `do `, where a line begins so and something does
+abbrev pub do_of : List ℕ → Option (List ℕ)
+do_of line = if bytes_eq (take 3 line) (codes "do ") then any_text (drop 3 line) else None
+
+-- what a line says that isn't silent: a line `do` is no access
+abbrev pub unless_does : Option (List ℕ) → List ℕ → Result TraceLine AccessError
+unless_does (Some said) line = Err fault.Does
+unless_does None line = by_name (behind_in line) line
+
 abbrev pub line_by : List ℕ → Result TraceLine AccessError
-line_by line = by_name (behind_in line) line
+line_by line = unless_does (do_of line) line
 
 -- something, if it is said
 abbrev pub said_by : Result TraceLine AccessError → Result (Option TraceLine) AccessError
@@ -72,11 +85,6 @@ said_by (Err why) = Err why
 abbrev pub access_of : List ℕ → Result (Option TraceLine) AccessError
 access_of line = if is_silent line then Ok None else said_by (line_by line)
 
--- the text of a mark, if it has any
-abbrev pub mark_text : List ℕ → Option (List ℕ)
-mark_text [] = None
-mark_text (byte ∷ rest) = Some (byte ∷ rest)
-
 -- what stands behind `mark `, where a line begins so and something does
 abbrev pub mark_of : List ℕ → Option (List ℕ)
-mark_of line = if bytes_eq (take 5 line) (codes "mark ") then mark_text (drop 5 line) else None
+mark_of line = if bytes_eq (take 5 line) (codes "mark ") then any_text (drop 5 line) else None

@@ -2,8 +2,8 @@
 ghost use Rattle.std.specs.Prelude.{◌≡◌};
 ghost use Rattle.std.specs.Option.{option_map};
 ghost use Rattle.numa_script.specs.Lines.{is_silent};
-ghost use Rattle.numa_traces.specs.Accesses.{access_by, access_of, behind_in, line_by, mark_of};
-ghost use Rattle.numa_traces.specs.Accesses.{mark_text, named_by, with_task};
+ghost use Rattle.numa_traces.specs.Accesses.{access_by, access_of, any_text, behind_in, do_of};
+ghost use Rattle.numa_traces.specs.Accesses.{line_by, mark_of, named_by, with_task};
 
 use crate::fault::AccessError;
 use numa_mask::Parts;
@@ -112,9 +112,9 @@ fn behind_in(line: &[u8]) -> Option<&[u8]>
     line.strip_prefix(b"in ")
 }
 
-/// The text of a mark, if it has any.
-fn mark_text(rest: &[u8]) -> Option<&[u8]>
-    ensures { option_map (λ text. text.now) result ≡ mark_text rest.now }
+/// A text, if it has a byte.
+fn any_text(rest: &[u8]) -> Option<&[u8]>
+    ensures { option_map (λ text. text.now) result ≡ any_text rest.now }
 {
     if rest.is_empty() {
         return None;
@@ -127,7 +127,18 @@ pub fn mark_in(line: &[u8]) -> Option<&[u8]>
     ensures { option_map (λ text. text.now) result ≡ mark_of line.now }
 {
     match line.strip_prefix(b"mark ") {
-        Some(rest) => mark_text(rest),
+        Some(rest) => any_text(rest),
+        None => None,
+    }
+}
+
+/// The line of the language that a line of a trace carries out, if it does: it begins with `do `,
+/// and something follows.
+pub fn do_in(line: &[u8]) -> Option<&[u8]>
+    ensures { option_map (λ said. said.now) result ≡ do_of line.now }
+{
+    match line.strip_prefix(b"do ") {
+        Some(rest) => any_text(rest),
         None => None,
     }
 }
@@ -136,6 +147,9 @@ pub fn mark_in(line: &[u8]) -> Option<&[u8]>
 fn read_line(line: &[u8]) -> Result<TraceLine, AccessError>
     ensures { result ≡ line_by line.now }
 {
+    if let Some(_) = do_in(line) {
+        return Err(AccessError::Does);
+    }
     if let Some(rest) = behind_in(line) {
         return read_named(words(rest));
     }
@@ -164,9 +178,9 @@ fn is_silent(line: &[u8]) -> bool
 /// `#`.
 ///
 /// # Errors
-/// Behind `in`, `BadProcess`: P isn't a number below 2^32. Then the first that applies:
-/// `WordCount`, there aren't three or four words of an access; `BadTask`, `BadAddress`, `BadCpu`,
-/// `BadCount`: that word isn't a valid number.
+/// `Does`: it is a line `do`. Behind `in`, `BadProcess`: P isn't a number below 2^32. Then the
+/// first that applies: `WordCount`, there aren't three or four words of an access; `BadTask`,
+/// `BadAddress`, `BadCpu`, `BadCount`: that word isn't a valid number.
 pub fn read_access(line: &[u8]) -> Result<Option<TraceLine>, AccessError>
     ensures { result ≡ access_of line.now }
 {

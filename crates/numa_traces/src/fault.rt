@@ -17,6 +17,8 @@ pub enum AccessError {
     BadCpu,
     /// The count isn't a number below 2^32.
     BadCount,
+    /// The line is one `do`, where no script takes it.
+    Does,
 }
 
 /// Why a trace can't be replayed.
@@ -34,6 +36,16 @@ pub enum ReplayError {
     Refused(PlaceRefusal),
     /// There are 2^64 or more accesses of one kind.
     TooMany,
+    /// A line `do`, where pages take frames.
+    WantsRoom,
+    /// A line `do`, where accesses are counted by range.
+    ByRange,
+    /// A line `do`, where a page shows where pages lie.
+    Drawn,
+    /// A line `do` that is about pages of 2 MiB, or comes after some are mapped.
+    Huge,
+    /// Pages lie in more than 1,048,576 runs, since a line `do`.
+    TooManyRuns,
     /// Out of memory.
     NoMemory,
 }
@@ -50,6 +62,7 @@ impl AccessError {
             AccessError::BadAddress => "bad words: ADDRESS is no number below 2^64",
             AccessError::BadCpu => "bad words: CPU is no number below 2^32",
             AccessError::BadCount => "bad words: COUNT is no number below 2^32",
+            AccessError::Does => "bad state: no line do is carried out here",
         }
     }
 }
@@ -76,6 +89,20 @@ impl ReplayError {
                 "refused Unmapped: the page isn't mapped after the scripts"
             }
             ReplayError::TooMany => "too many accesses: 2^64 or more of one kind",
+            ReplayError::WantsRoom => {
+                "bad state: do wants pages that take room; give --free, or FRAMES 0 in machine"
+            }
+            ReplayError::ByRange => {
+                "bad state: do changes ranges, by which accesses are told; leave --ranges out"
+            }
+            ReplayError::Drawn => {
+                "bad state: do changes where pages lie, which a page doesn't show; leave --format html \
+                out"
+            }
+            ReplayError::Huge => "bad state: do wants pages of 4 KiB alone, not of 2 MiB",
+            ReplayError::TooManyRuns => {
+                "refused TooManyRuns: pages lie in more than 1048576 runs, which do can't take"
+            }
             ReplayError::NoMemory => "out of memory",
         }
     }

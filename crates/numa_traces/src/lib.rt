@@ -5,8 +5,8 @@
 //! of a trace in order: the first touch of a page places it on the first node of its list that has
 //! a frame left, and later accesses go there, whichever task makes them. A [`HostReplay`] has the
 //! processes of a host, each with a plan and pages of its own, on frames that all share.
-//! A [`PlanReplay`] reads the lines of one process, and keeps a [`Mark`] for each that closes a
-//! phase. [`read_by`] reads a trace from a reader.
+//! A [`TraceState`] takes the lines of one process, and keeps a [`Mark`] for each that closes a
+//! phase; a [`PlanReplay`] has the plan by which it does. [`read_by`] reads a trace from a reader.
 #![tactic(auto)]
 
 mod access;
@@ -36,9 +36,10 @@ mod routes;
 mod summary;
 mod tallies;
 mod telling;
+mod trace_state;
 mod whole;
 
-pub use access::{Access, TraceLine, mark_in, read_access};
+pub use access::{Access, TraceLine, do_in, mark_in, read_access};
 pub use before::Before;
 pub use fault::{AccessError, ReplayError};
 pub use form::ReplayForm;
@@ -59,4 +60,5 @@ pub use report::{report_text, total_text};
 pub use room::{has_frames, room_before};
 pub use routes::{RouteCounts, routes_of};
 pub use tallies::{AccessCounts, Route, Tallies};
+pub use trace_state::{TraceState, TraceStep};
 pub use whole::replay_all;

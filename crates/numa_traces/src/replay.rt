@@ -6,6 +6,7 @@ ghost use Rattle.numa_traces.specs.Hosting.{with_free};
 ghost use Rattle.numa_traces.specs.Replaying.{EndsReplay, IsNext, IsReplay};
 ghost use Rattle.numa_traces.specs.Placing.{node_of};
 ghost use Rattle.numa_traces.specs.Resting.{laid_by};
+ghost use Rattle.numa_traces.specs.Tallies.{Counts, IsRoomFault};
 ghost use Rattle.numa_traces.specs.declared.access.Access.{Access};
 ghost use Rattle.numa_traces.specs.declared.fault.ReplayError.TheVariants as fault;
 
@@ -103,6 +104,25 @@ impl Replay {
         ensures { result.now ≡ self.now.tallies }
     {
         &self.tallies
+    }
+
+    /// Counts accesses to a page that lies on a node, or found none. The first is a fault or not.
+    ///
+    /// # Errors
+    /// As [`Tallies::add`]. Then nothing has changed.
+    pub(crate) fn count(
+        &mut self,
+        access: Access,
+        node: Option<u8>,
+        is_fault: bool,
+    ) -> Result<(), ReplayError>
+        ensures frames { self.new.frames ≡ self.old.frames }
+        ensures counts { OnOk result (Counts self.old.tallies (access.task, access.cpu, node)
+            access.count is_fault self.new.tallies) }
+        ensures err { IfErr result IsRoomFault }
+    {
+        self.tallies
+            .add((access.task, access.cpu, node), access.count, is_fault)
     }
 
     /// A page lies on a node and takes nothing of its room, unless an access placed it.

@@ -7,7 +7,7 @@ use numa_sheets::{Format, Touch};
 use numa_space::Space;
 use numa_subjects::{Added, Halt, Subject};
 use numa_traces::{
-    Moment, PlanReplay, RangeTallies, RangesMet, Replay, ReplayForm, Replaying, Tallies,
+    Moment, RangeTallies, RangesMet, Replay, ReplayError, ReplayForm, Tallies, TraceState,
     moments_of, placed_text, report_text,
 };
 use std::alloc::{AllocError, Global};
@@ -97,27 +97,42 @@ pub(crate) fn serves_nothing(tallies: &Tallies) -> bool {
     !tallies.is_empty() && tallies.are_unserved()
 }
 
-/// The report of a whole trace, as a text, or as a page.
-pub(crate) fn met(
+/// What a trace of one space has met.
+#[derive(Clone, Copy)]
+pub struct TraceMet<'a> {
+    pub state: &'a TraceState,
+    /// The first line that can't be replayed, and why, if there is one.
+    pub fault: Option<(u64, ReplayError)>,
+    /// Whether pages take room, and not frames.
+    pub takes_room: bool,
+}
+
+/// The report of a whole trace, as a text, or as a page, in a space as it is after it, by the plan
+/// of its accepted commands.
+///
+/// # Errors
+/// `BadAccess`: the first line of the trace that can't be replayed; `NothingServed`: pages take
+/// room, and none found any; or `Stopped`: out of memory.
+pub fn report_of(
     alloc: Global,
     planned: Planned<'_>,
-    replaying: &Replaying<PlanReplay<'_>>,
+    met: TraceMet<'_>,
     form: ReplayForm,
 ) -> Result<Vec<u8>, Halt> {
-    if let Some((place, fault)) = replaying.fault() {
+    if let Some((place, fault)) = met.fault {
         return Err(Halt::BadAccess(place, fault));
     }
-    let trace = replaying.replay();
-    if planned.ground.room.is_some() && serves_nothing(trace.replay.tallies()) {
+    let state = met.state;
+    if met.takes_room && serves_nothing(state.replay.tallies()) {
         return Err(Halt::NothingServed);
     }
-    let moments = moments_of(alloc, &trace.replay, trace.marks.as_slice())?;
+    let moments = moments_of(alloc, &state.replay, state.marks.as_slice())?;
     let text = report_in(
         alloc,
         planned,
-        &trace.replay,
+        &state.replay,
         moments.as_slice(),
-        &trace.ranges,
+        &state.ranges,
         form,
     );
     drop(moments);

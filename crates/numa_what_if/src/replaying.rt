@@ -1,15 +1,14 @@
 //! Replaying traces in a space, or in each process of a host.
-use crate::met::{met, report_in};
-use crate::stage::{
-    FRAMES, Ground, Planned, Stage, Unplanned, plan_of, ranges_of, room_of, space_on,
-};
+use crate::met::{TraceMet, report_in, report_of};
+use crate::stage::{Planned, plan_of, room_of};
 use numa_answers::{About, add_answer, shown_as, told_of};
 use numa_host::{Host, Process};
 use numa_lines::{RunFault, TakeLine};
+use numa_plan::Plan;
 use numa_reports::ByProcess;
 use numa_sheets::Format;
 use numa_space::Space;
-use numa_subjects::{Added, Halt, Subject, differ, host_in};
+use numa_subjects::{Added, Halt, Subject, differ};
 use numa_traces::{
     HostReplay, HostTrace, PlanReplay, ReplayForm, Replaying, moments_in, moments_of_all, read_by,
     total_text,
@@ -40,21 +39,36 @@ impl<T: TakeLine<()>> TakeLine<()> for ByBoth<T> {
     }
 }
 
+/// Two of one kind, or the first alone.
+fn both_of<T: Drop>(first: T, other: Option<Result<T, Halt>>) -> Result<ByBoth<T>, Halt> {
+    match other {
+        Some(Ok(other)) => Ok(ByBoth {
+            first,
+            other: Some(other),
+        }),
+        Some(Err(halt)) => {
+            drop(first);
+            Err(halt)
+        }
+        None => Ok(ByBoth { first, other: None }),
+    }
+}
+
 /// Reads a trace to its end, if there is a replay before its first line.
 fn read_whole<S: Read + Drop, T: TakeLine<()> + Drop>(
     alloc: Global,
-    begun: Result<ByBoth<T>, Halt>,
+    begun: Result<T, Halt>,
     trace: Vec<(String, S)>,
-) -> Result<ByBoth<T>, Halt> {
-    let both = match begun {
-        Ok(both) => both,
+) -> Result<T, Halt> {
+    let replay = match begun {
+        Ok(replay) => replay,
         Err(halt) => {
             drop(trace);
             return Err(halt);
         }
     };
-    match read_by(alloc, trace, both) {
-        Ok(both) => Ok(both),
+    match read_by(alloc, trace, replay) {
+        Ok(replay) => Ok(replay),
         Err(why) => Err(Halt::Stopped(why)),
     }
 }
@@ -72,149 +86,6 @@ fn replayed_as(text: Result<Vec<u8>, Halt>, is_other: bool) -> Result<Replayed, 
         Ok(text) => Ok(Replayed { text, is_other }),
         Err(halt) => Err(halt),
     }
-}
-
-/// What a trace meets before its first line in a space by its plan, by range too if that is wanted.
-fn begun_in<'a>(
-    alloc: Global,
-    planned: Planned<'a>,
-    process: Option<u32>,
-    by_range: bool,
-) -> Result<Replaying<PlanReplay<'a>>, Halt> {
-    let Planned {
-        space,
-        plan,
-        ground,
-        ..
-    } = planned;
-    let ranges = ranges_of(alloc, space, by_range)?;
-    let room = match room_of(alloc, space.machine(), ground) {
-        Ok(room) => room,
-        Err(lack) => {
-            drop(ranges);
-            return Err(Halt::from(lack));
-        }
-    };
-    let replay = PlanReplay::new(alloc, plan, ground.before, process, room, ranges);
-    Ok(Replaying::new(replay))
-}
-
-/// The same, and in another space, if there is one.
-fn both_begun<'a>(
-    alloc: Global,
-    planned: Planned<'a>,
-    other: Option<Planned<'a>>,
-    process: Option<u32>,
-    by_range: bool,
-) -> Result<ByBoth<Replaying<PlanReplay<'a>>>, Halt> {
-    let first = begun_in(alloc, planned, process, by_range)?;
-    let Some(other) = other else {
-        return Ok(ByBoth { first, other: None });
-    };
-    match begun_in(alloc, other, process, by_range) {
-        Ok(other) => Ok(ByBoth {
-            first,
-            other: Some(other),
-        }),
-        Err(halt) => {
-            drop(first);
-            Err(halt)
-        }
-    }
-}
-
-/// Replays a trace in a space by its plan, and in another, if there is one. The space is that of a
-/// host's process with this number, if there is one: what others do is left out.
-fn replayed_by<S: Read + Drop>(
-    alloc: Global,
-    planned: Planned<'_>,
-    other: Option<Planned<'_>>,
-    process: Option<u32>,
-    trace: Vec<(String, S)>,
-    form: ReplayForm,
-) -> Result<Replayed, Halt> {
-    let begun = both_begun(alloc, planned, other, process, form.by_range);
-    let both = read_whole(alloc, begun, trace)?;
-    let text = met(alloc, planned, &both.first, form);
-    let is_other = match (other, &both.other) {
-        (Some(other), Some(replaying)) => {
-            let own = met(alloc, planned, &both.first, form.with(Format::Text));
-            differ(own, met(alloc, other, replaying, form.with(Format::Text)))
-        }
-        _ => false,
-    };
-    drop(both);
-    replayed_as(text, is_other)
-}
-
-/// Replays a trace in a space by its plan, and in another space, if there is one.
-fn replayed_beside<S: Read + Drop>(
-    alloc: Global,
-    planned: Planned<'_>,
-    other: Option<Unplanned<'_>>,
-    process: Option<u32>,
-    trace: Vec<(String, S)>,
-    form: ReplayForm,
-) -> Result<Replayed, Halt> {
-    let Some(
-        Unplanned {
-            space,
-            member,
-            ground,
-        },
-    ) = other
-    else {
-        return replayed_by(alloc, planned, None, process, trace, form);
-    };
-    let plan = match plan_of(alloc, space) {
-        Ok(plan) => plan,
-        Err(halt) => {
-            drop(trace);
-            return Err(halt);
-        }
-    };
-    let other = Planned {
-        space,
-        member,
-        plan: &plan,
-        ground,
-    };
-    let replayed = replayed_by(alloc, planned, Some(other), process, trace, form);
-    drop(plan);
-    replayed
-}
-
-/// Replays a trace in a space by the plan of all accepted commands, and in another space, if there
-/// is one.
-fn replayed_in<S: Read + Drop>(
-    alloc: Global,
-    own: Unplanned<'_>,
-    other: Option<Unplanned<'_>>,
-    process: Option<u32>,
-    trace: Vec<(String, S)>,
-    form: ReplayForm,
-) -> Result<Replayed, Halt> {
-    let Unplanned {
-        space,
-        member,
-        ground,
-    } = own;
-    let plan = match plan_of(alloc, space) {
-        Ok(plan) => plan,
-        Err(halt) => {
-            drop(trace);
-            return Err(halt);
-        }
-    };
-    let planned = Planned {
-        space,
-        member,
-        plan: &plan,
-        ground,
-    };
-    let replayed = replayed_beside(alloc, planned, other, process, trace, form);
-    drop(plan);
-    replayed
 }
 
 /// Adds a process, which goes by the plan of all its accepted commands.
@@ -236,8 +107,8 @@ fn add_processes(
 }
 
 /// All processes of a host before the first access.
-fn begun(alloc: Global, host: &Host, ground: Ground<'_>) -> Result<Replaying<HostTrace>, Halt> {
-    let room = room_of(alloc, host.machine(), ground)?;
+fn begun(alloc: Global, host: &Host, room: Option<&[u64]>) -> Result<Replaying<HostTrace>, Halt> {
+    let room = room_of(alloc, host.machine(), room)?;
     let mut replay = HostReplay::new(alloc, room);
     match add_processes(alloc, host.processes(), &mut replay) {
         Ok(()) => Ok(Replaying::new(HostTrace::new(alloc, replay))),
@@ -264,7 +135,6 @@ fn add_report<'a>(
         space: &process.space,
         member: None,
         plan: &one.plan,
-        ground: FRAMES,
     };
     let text = report_in(alloc, planned, &one.replay, moments.as_slice(), &None, form);
     drop(moments);
@@ -334,14 +204,14 @@ fn serve_nothing(trace: &HostTrace) -> bool {
 fn met_in_each(
     alloc: Global,
     host: &Host,
-    ground: Ground<'_>,
+    room: Option<&[u64]>,
     replaying: &Replaying<HostTrace>,
     form: ReplayForm,
 ) -> Result<Vec<u8>, Halt> {
     if let Some((place, fault)) = replaying.fault() {
         return Err(Halt::BadAccess(place, fault));
     }
-    if ground.room.is_some() && serve_nothing(replaying.replay()) {
+    if room.is_some() && serve_nothing(replaying.replay()) {
         return Err(Halt::NothingServed);
     }
     let mut answers = ByProcess::of_trace(alloc, form.format);
@@ -355,43 +225,45 @@ fn both_hosts_begun(
     alloc: Global,
     host: &Host,
     other: Option<&Host>,
-    ground: Ground<'_>,
+    room: Option<&[u64]>,
 ) -> Result<ByBoth<Replaying<HostTrace>>, Halt> {
-    let first = begun(alloc, host, ground)?;
-    let Some(other) = other else {
-        return Ok(ByBoth { first, other: None });
+    let first = begun(alloc, host, room)?;
+    let other = match other {
+        Some(other) => Some(begun(alloc, other, room)),
+        None => None,
     };
-    match begun(alloc, other, ground) {
-        Ok(other) => Ok(ByBoth {
-            first,
-            other: Some(other),
-        }),
-        Err(halt) => {
-            drop(first);
-            Err(halt)
-        }
-    }
+    both_of(first, other)
 }
 
-/// Replays a trace whose lines name processes of a host, each by its own plan, on frames that all
-/// share, and in another host, if there is one.
-fn replayed_in_each<S: Read + Drop>(
+/// Replays a trace whose lines name processes of a host, each by the plan of its accepted commands,
+/// on the same frames, or in the same room where there is some, and in another host, if there is
+/// one.
+///
+/// # Errors
+/// `ManyProcesses`: it is asked for by range; `BadAccess`: the first line of the trace that can't
+/// be replayed; `NothingServed`: pages take room, and none found any; or `Stopped`: a read failed,
+/// or out of memory.
+pub fn replay_hosts<S: Read + Drop>(
     alloc: Global,
     host: &Host,
     other: Option<&Host>,
-    ground: Ground<'_>,
+    room: Option<&[u64]>,
     trace: Vec<(String, S)>,
     form: ReplayForm,
 ) -> Result<Replayed, Halt> {
-    let begun = both_hosts_begun(alloc, host, other, ground);
+    if form.by_range {
+        drop(trace);
+        return Err(Halt::ManyProcesses);
+    }
+    let begun = both_hosts_begun(alloc, host, other, room);
     let both = read_whole(alloc, begun, trace)?;
-    let text = met_in_each(alloc, host, ground, &both.first, form);
+    let text = met_in_each(alloc, host, room, &both.first, form);
     let is_other = match (other, &both.other) {
         (Some(other), Some(replaying)) => {
-            let own = met_in_each(alloc, host, ground, &both.first, form.with(Format::Text));
+            let own = met_in_each(alloc, host, room, &both.first, form.with(Format::Text));
             differ(
                 own,
-                met_in_each(alloc, other, ground, replaying, form.with(Format::Text)),
+                met_in_each(alloc, other, room, replaying, form.with(Format::Text)),
             )
         }
         _ => false,
@@ -400,45 +272,40 @@ fn replayed_in_each<S: Read + Drop>(
     replayed_as(text, is_other)
 }
 
-/// The host of a stage, if it is one's.
-fn host_on(stage: Option<Stage<'_>>) -> Option<&Host> {
-    host_in(Some(stage?.subject))
+/// A trace before its first line in a space by its plan, on frames.
+fn begun_on_frames<'a>(
+    alloc: Global,
+    space: &Space,
+    plan: &'a Plan,
+) -> Result<Replaying<PlanReplay<'a>>, Halt> {
+    let room = room_of(alloc, space.machine(), None)?;
+    let replay = PlanReplay::new(alloc, plan, None, None, room, None);
+    Ok(Replaying::new(replay))
 }
 
-/// Replays a trace by the plans of all accepted commands, of the one space or of each process, and
-/// by the other rules, if `other` is the same by those. Of the one process of a host with a number
-/// what others do is left out. All processes of a host take the same frames, or the same room.
-///
-/// # Errors
-/// `ManyProcesses`: all processes of a host are asked for by range; `BadAccess`: the first line of
-/// the trace that can't be replayed; `NothingServed`: pages take room, and none found any; or
-/// `Stopped`: a read failed, or out of memory.
-pub fn replayed_of<S: Read + Drop>(
+/// Replays a trace in a space by its plan, on frames.
+fn replayed_on_frames<S: Read + Drop>(
     alloc: Global,
-    stage: Stage<'_>,
-    other: Option<Stage<'_>>,
-    process: Option<u32>,
+    space: &Space,
+    plan: &Plan,
     trace: Vec<(String, S)>,
-    form: ReplayForm,
-) -> Result<Replayed, Halt> {
-    let ground = stage.ground;
-    match stage.subject {
-        Subject::One(space, member) => {
-            let own = Unplanned {
-                space,
-                member,
-                ground,
-            };
-            replayed_in(alloc, own, space_on(other), process, trace, form)
-        }
-        Subject::Each(host) => {
-            if form.by_range {
-                drop(trace);
-                return Err(Halt::ManyProcesses);
-            }
-            replayed_in_each(alloc, host, host_on(other), ground, trace, form)
-        }
-    }
+    format: Format,
+) -> Result<Vec<u8>, Halt> {
+    let begun = begun_on_frames(alloc, space, plan);
+    let replaying = read_whole(alloc, begun, trace)?;
+    let met = TraceMet {
+        state: &replaying.replay().state,
+        fault: replaying.fault(),
+        takes_room: false,
+    };
+    let planned = Planned {
+        space,
+        member: None,
+        plan,
+    };
+    let text = report_of(alloc, planned, met, ReplayForm::plain(format));
+    drop(replaying);
+    text
 }
 
 /// What a trace meets on the machine of a space, where no page is placed and each takes a frame, as
@@ -453,11 +320,14 @@ pub fn replay_space<S: Read + Drop>(
     trace: Vec<(String, S)>,
     format: Format,
 ) -> Result<Vec<u8>, Halt> {
-    let own = Unplanned {
-        space,
-        member: None,
-        ground: FRAMES,
+    let plan = match plan_of(alloc, space) {
+        Ok(plan) => plan,
+        Err(halt) => {
+            drop(trace);
+            return Err(halt);
+        }
     };
-    let replayed = replayed_in(alloc, own, None, None, trace, ReplayForm::plain(format))?;
-    Ok(replayed.text)
+    let text = replayed_on_frames(alloc, space, &plan, trace, format);
+    drop(plan);
+    text
 }

@@ -4,63 +4,23 @@ use numa_lines::RunFault;
 use numa_machine::Machine;
 use numa_plan::Plan;
 use numa_space::Space;
-use numa_subjects::{Halt, InGroup, Subject};
-use numa_traces::{Before, PageSpan, RangeTallies, all_frames};
+use numa_subjects::{Halt, InGroup};
+use numa_traces::{PageSpan, RangeTallies, TraceState, all_frames};
 use std::alloc::{AllocError, Global};
 
-/// Where pages lie before a trace, and for how many more each node has room: for 2^64 - 1 it never
-/// fills. Without room pages take the frames of the machine.
+/// A space, of which process of a host it is, and its plan.
 #[derive(Clone, Copy)]
-pub struct Ground<'a> {
-    pub before: Option<Before<'a>>,
-    pub room: Option<&'a [u64]>,
-}
-
-/// No page lies anywhere, and each takes a frame.
-pub const FRAMES: Ground<'static> = Ground {
-    before: None,
-    room: None,
-};
-
-/// The one space or the processes whose accesses a trace has, and where their pages lie before it.
-#[derive(Clone, Copy)]
-pub struct Stage<'a> {
-    pub subject: Subject<'a>,
-    pub ground: Ground<'a>,
-}
-
-/// A space, of which process of a host it is, its plan, and where its pages lie before a trace.
-#[derive(Clone, Copy)]
-pub(crate) struct Planned<'a> {
-    pub(crate) space: &'a Space,
-    pub(crate) member: Option<InGroup>,
-    pub(crate) plan: &'a Plan,
-    pub(crate) ground: Ground<'a>,
-}
-
-/// A space without its plan.
-#[derive(Clone, Copy)]
-pub(crate) struct Unplanned<'a> {
-    pub(crate) space: &'a Space,
-    pub(crate) member: Option<InGroup>,
-    pub(crate) ground: Ground<'a>,
-}
-
-/// The one space of a stage, if it is one.
-pub(crate) fn space_on(stage: Option<Stage<'_>>) -> Option<Unplanned<'_>> {
-    let stage = stage?;
-    match stage.subject {
-        Subject::One(space, member) => Some(Unplanned {
-            space,
-            member,
-            ground: stage.ground,
-        }),
-        Subject::Each(_) => None,
-    }
+pub struct Planned<'a> {
+    pub space: &'a Space,
+    pub member: Option<InGroup>,
+    pub plan: &'a Plan,
 }
 
 /// The plan of all accepted commands of a space.
-pub(crate) fn plan_of(alloc: Global, space: &Space) -> Result<Plan, Halt> {
+///
+/// # Errors
+/// `Stopped`: out of memory.
+pub fn plan_of(alloc: Global, space: &Space) -> Result<Plan, Halt> {
     match compile(alloc, space) {
         Ok(plan) => Ok(plan),
         Err(_) => Err(Halt::Stopped(RunFault::Memory)),
@@ -71,9 +31,9 @@ pub(crate) fn plan_of(alloc: Global, space: &Space) -> Result<Plan, Halt> {
 pub(crate) fn room_of(
     alloc: Global,
     machine: &Machine,
-    ground: Ground<'_>,
+    room: Option<&[u64]>,
 ) -> Result<Vec<u64>, AllocError> {
-    match ground.room {
+    match room {
         Some(room) => Vec::from_slice(alloc, room),
         None => all_frames(alloc, machine),
     }
@@ -99,7 +59,7 @@ fn firsts_of(alloc: Global, space: &Space) -> Result<Vec<u64>, AllocError> {
 }
 
 /// No accesses by the ranges of a space, if they are counted.
-pub(crate) fn ranges_of(
+fn ranges_of(
     alloc: Global,
     space: &Space,
     is_counted: bool,
@@ -109,4 +69,26 @@ pub(crate) fn ranges_of(
     }
     let firsts = firsts_of(alloc, space)?;
     Ok(Some(RangeTallies::new(alloc, firsts)))
+}
+
+/// What a trace has met before its first line in a space whose nodes have so much room, or so many
+/// frames, by range too if that is wanted. Lines that name another process than this one are left
+/// out; without one no line may name any.
+///
+/// # Errors
+/// `Stopped`: out of memory.
+pub fn state_of(
+    alloc: Global,
+    space: &Space,
+    process: Option<u32>,
+    room: Vec<u64>,
+    by_range: bool,
+) -> Result<TraceState, Halt> {
+    match ranges_of(alloc, space, by_range) {
+        Ok(ranges) => Ok(TraceState::new(alloc, process, room, ranges)),
+        Err(lack) => {
+            drop(room);
+            Err(Halt::from(lack))
+        }
+    }
 }

@@ -10,6 +10,7 @@
 #![tactic(auto)]
 
 mod asking;
+mod deeds;
 mod differing;
 mod explaining;
 mod moving;

@@ -35,6 +35,11 @@ TellsMoves (Err why) code old new count count_then =
 abbrev pub ended_code : ReplayError → ℕ
 ended_code (fault.Malformed why) = 81
 ended_code fault.Unnamed = 81
+ended_code fault.WantsRoom = 81
+ended_code fault.ByRange = 81
+ended_code fault.Drawn = 81
+ended_code fault.Huge = 81
+ended_code fault.TooManyRuns = 81
 ended_code fault.Named = 81
 ended_code fault.NoProcess = 81
 ended_code (fault.Refused cause) = 81
@@ -45,6 +50,11 @@ ended_code fault.NoMemory = 3
 abbrev pub place_told : ReplayError → ℕ → ℕ → ℕ
 place_told (fault.Malformed why) place before = place
 place_told fault.Unnamed place before = place
+place_told fault.WantsRoom place before = place
+place_told fault.ByRange place before = place
+place_told fault.Drawn place before = place
+place_told fault.Huge place before = place
+place_told fault.TooManyRuns place before = place
 place_told fault.Named place before = place
 place_told fault.NoProcess place before = place
 place_told (fault.Refused cause) place before = place

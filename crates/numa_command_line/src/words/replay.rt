@@ -97,9 +97,11 @@ left. Pages that lie somewhere after the \
 scripts stay there.\n\nA \
 line of the trace is TASK ADDRESS CPU [COUNT], in decimal or 0x; empty lines and those that \
 begin with # are skipped. A line mark TEXT closes a phase: totals are given by phase and in \
-all. Of a host a line is in P TASK ADDRESS CPU [COUNT]: each process is answered for, and \
-then all together, and all take the same frames or the same room; or with --process process P \
-alone, whose lines need not name it.\n\nScript lines that are faulty or refused are \
+all. Where pages take room, a line do LINE carries out a line of scripts: what it changes \
+counts from there on, and pages that it moves are counted where they lie then. Of a host a \
+line is in P TASK ADDRESS CPU [COUNT]: each process is answered for, and then all together, and \
+all take the same frames or the same room; or with --process process P alone, whose lines need \
+not name it.\n\nScript lines that are faulty or refused are \
 reported on standard error as by `check`, and skipped. The status is 3 if there are some, \
 unless --lenient is given, if no machine is ready after the scripts, if a line of the trace \
 can't be replayed, and if pages take room and none finds any. If neither --rules nor a line \

@@ -2,7 +2,7 @@ use Rattle.std.proofs.Common.{◌∙◌, sym}
 use Rattle.numa_traces.specs.Resting.{lies_where}
 use Rattle.numa_traces.proofs.Replays.{on-ok}
 use Rattle.numa_traces.proofs.Stepped.{found-lies, found-none}
-use Rattle.numa_traces.proofs.plan_reading.find.Goals as goal
+use Rattle.numa_traces.proofs.trace_state.find.Goals as goal
 
 pub returns-in-Some-clause-found : goal.returns-in-Some-clause-found
 returns-in-Some-clause-found c = on-ok c.lay.result

@@ -4,27 +4,25 @@ use Rattle.numa_traces.specs.Ranging.{CountsRange, EndsCounted}
 use Rattle.numa_traces.specs.Replaying.{IsNext, Replayed, is_first, route_from}
 use Rattle.numa_traces.specs.Placing.{Frames}
 use Rattle.numa_traces.specs.Resting.{laid, lies_where}
-use Rattle.numa_traces.specs.declared.plan_reading.PlanReplay.{PlanReplay}
+use Rattle.numa_traces.specs.declared.trace_state.TraceState.{TraceState}
 use Rattle.numa_traces.proofs.ByRange.{counted-same, more-ranged, on-three}
 use Rattle.numa_traces.proofs.Stepped.{touched}
-use Rattle.numa_traces.proofs.plan_reading.PlanReplay.touch.Goals as goal
+use Rattle.numa_traces.proofs.trace_state.TraceState.touch.Goals as goal
 
 pub returns-in-Err-clause-err : goal.returns-in-Err-clause-err
 returns-in-Err-clause-err c = inl c.in-Err.ensures.err
 
 pub returns-clause-ok : goal.returns-clause-ok
 returns-clause-ok c =
-    let old : PlanReplay = c.args.self.now in
-    let plan = old.plan.now in
-    let there : ℕ → Option ℕ = lies_where old.before in
+    let old : TraceState = c.args.self.now in
+    let plan = c.args.plan.now in
+    let there : ℕ → Option ℕ = lies_where c.args.before.now in
     let access = c.args.access in
     let ranges = c.take_counted.new.ranges in
     let found = c.in_default.ensures.found in
     let frames : Frames = laid there old.replay.frames access.page in
     on-three c.take_counted.result (λ allowed next counts. (
       record {
-        plan = refl;
-        before = refl;
         process = refl;
         ranges = counted-same old.ranges ranges access (route_from plan frames access)
             (is_first frames access) counts;
@@ -45,7 +43,7 @@ returns-clause-ok c =
 
 pub returns-clause-err : goal.returns-clause-err
 returns-clause-err c =
-    let old : PlanReplay = c.args.self.now in
+    let old : TraceState = c.args.self.now in
     subst (λ (met : Replayed). IfErr c.take_counted.result
-    (EndsCounted old.plan.now met old.ranges c.args.access)) c.in_default.ensures.found
+    (EndsCounted c.args.plan.now met old.ranges c.args.access)) c.in_default.ensures.found
     c.take_counted.ensures.err
