@@ -50,17 +50,21 @@ uint32_t np_desk_open(np_desk *desk, const uint8_t *memory, size_t memory_length
 void np_desk_close(np_desk *desk);
 
 /* Commands, as the calls of the same name for a core: each that is accepted adds one to the version,
- * and readers see it once it is published. np_desk_mbind answers a faulty policy before all else, by
- * the kernel's rules and of no bytes, too. */
+ * and readers see it once it is published. */
 uint32_t np_desk_map(np_desk *desk, uint64_t start, uint64_t length, uint64_t offset);
 uint32_t np_desk_map_huge(np_desk *desk, uint64_t start, uint64_t length, uint64_t offset);
 uint32_t np_desk_unmap(np_desk *desk, uint64_t start, uint64_t length);
 uint32_t np_desk_mbind(np_desk *desk, uint64_t start, uint64_t length, const uint8_t *policy,
                        size_t policy_length);
+uint32_t np_desk_mbind_by(np_desk *desk, uint64_t start, uint64_t length, uint32_t mode,
+                          const np_nodes *nodes);
 uint32_t np_desk_set_task(np_desk *desk, uint32_t task, const uint8_t *policy,
                           size_t policy_length);
+uint32_t np_desk_set_task_by(np_desk *desk, uint32_t task, uint32_t mode, const np_nodes *nodes);
 uint32_t np_desk_inherit(np_desk *desk, uint32_t task, uint32_t from);
 uint32_t np_desk_set_home(np_desk *desk, uint64_t start, uint64_t length, uint32_t node);
+uint32_t np_desk_home_by(np_desk *desk, uint64_t start, uint64_t length, uint64_t node,
+                         uint64_t flags);
 uint32_t np_desk_set_weight(np_desk *desk, uint32_t node, uint32_t weight);
 uint32_t np_desk_set_mems(np_desk *desk, const uint8_t *nodes, size_t nodes_length);
 

@@ -5,7 +5,7 @@ from __future__ import annotations
 from ctypes import byref, c_size_t, c_uint8, c_uint64
 from typing import TYPE_CHECKING, Iterable
 
-from ._calls import encoded
+from ._calls import encoded, node_set
 from ._judged import Nodes, Numbers, bytes_to_write, list_of, u32, u64
 from ._library import Limits
 from ._machines import description, options_of
@@ -103,9 +103,19 @@ class Desk(Owner):
         self._call("desk_mbind", u64("start", start), u64("length", length),
                    *encoded("policy", policy))
 
+    def mbind_by(self, start: int, length: int, mode: int, nodes: Nodes = ()) -> None:
+        """As Core.mbind_by."""
+        self._call("desk_mbind_by", u64("start", start), u64("length", length), u32("mode", mode),
+                   byref(node_set("nodes", nodes)))
+
     def set_task(self, task: int, policy: str) -> None:
         """As Core.set_task."""
         self._call("desk_set_task", u32("task", task), *encoded("policy", policy))
+
+    def set_task_by(self, task: int, mode: int, nodes: Nodes = ()) -> None:
+        """As Core.set_task_by."""
+        self._call("desk_set_task_by", u32("task", task), u32("mode", mode),
+                   byref(node_set("nodes", nodes)))
 
     def inherit(self, task: int, from_task: int) -> None:
         """As Core.inherit."""
@@ -114,6 +124,11 @@ class Desk(Owner):
     def set_home(self, start: int, length: int, node: int) -> None:
         """As Core.set_home."""
         self._call("desk_set_home", u64("start", start), u64("length", length), u32("node", node))
+
+    def home_by(self, start: int, length: int, node: int, flags: int = 0) -> None:
+        """As Core.home_by."""
+        self._call("desk_home_by", u64("start", start), u64("length", length), u64("node", node),
+                   u64("flags", flags))
 
     def set_weight(self, node: int, weight: int) -> None:
         """As Core.set_weight."""

@@ -23,10 +23,12 @@ static void wrong(int line, const char *what) {
     failed = 1;
 }
 
-static uint32_t open_desk(np_desk *desk, uint32_t readers) {
+static uint32_t open_by(np_desk *desk, uint32_t readers, const np_options *options) {
     return np_desk_open(desk, (const uint8_t *)"0-1", 3, frames, 2, distances, 4, &limits, readers,
-                        &documents);
+                        options);
 }
+
+static uint32_t open_desk(np_desk *desk, uint32_t readers) { return open_by(desk, readers, &documents); }
 
 static uint32_t bind_all(np_desk *desk, const char *policy) {
     return np_desk_mbind(desk, FIRST * 4096, PAGES * 4096, (const uint8_t *)policy, strlen(policy));
@@ -84,6 +86,34 @@ static void commands(void) {
     CHECK(np_desk_publish(&desk, &version) == NP_OK && version == 8);
     CHECK(np_desk_publish(&desk, &version) == NP_OK && version == 8);
     CHECK(np_desk_versions(&desk, &accepted, &published) == NP_OK && accepted == 8 && published == 8);
+    np_desk_close(&desk);
+}
+
+/* The same by the system calls' own words, and no bytes by each kind of rules. */
+static void words(void) {
+    enum { BIND = 2, STATIC = 0x8000 };
+    static const np_options by_the_kernel = {.rules = NP_RULES_LINUX};
+    np_desk desk = {0};
+    np_nodes second, none;
+    uint64_t accepted = 0, published = 0;
+    unsigned long mask = 2;
+    CHECK(np_nodes_of(&mask, 3, &second) == NP_OK && np_nodes_of(&mask, 0, &none) == NP_OK);
+    CHECK(np_desk_mbind_by(&desk, 4096, 4096, 7, &second) == NP_UNKNOWN_MODE);
+    CHECK(np_desk_set_task_by(&desk, 1, BIND, &none) == NP_NODES_MISSING);
+    CHECK(np_desk_home_by(&desk, 4096, 4096, 1, 1) == NP_FLAGS_FORBIDDEN);
+    CHECK(np_desk_home_by(&desk, 4096, 4096, 1, 0) == NP_CLOSED);
+    CHECK(open_desk(&desk, 1) == NP_OK && np_desk_map(&desk, 4096, 8192, 1) == NP_OK);
+    CHECK(np_desk_mbind_by(&desk, 4096, 4096, BIND | STATIC, &second) == NP_OK);
+    CHECK(np_desk_set_task_by(&desk, 1, BIND, &second) == NP_OK);
+    CHECK(np_desk_home_by(&desk, 4096, 4096, 1ull << 40, 0) == NP_NO_SUCH_NODE);
+    CHECK(np_desk_home_by(&desk, 4096, 4096, 1, 0) == NP_OK);
+    CHECK(np_desk_mbind(&desk, 4096, 0, (const uint8_t *)"bind", 4) == NP_NODES_MISSING);
+    CHECK(np_desk_versions(&desk, &accepted, &published) == NP_OK && accepted == 4);
+    np_desk_close(&desk);
+    CHECK(open_by(&desk, 1, &by_the_kernel) == NP_OK);
+    CHECK(np_desk_mbind(&desk, 4096, 0, (const uint8_t *)"bind", 4) == NP_OK);
+    CHECK(np_desk_mbind_by(&desk, 4096, 0, BIND, &none) == NP_OK);
+    CHECK(np_desk_mbind_by(&desk, 4096, 0, 7, &second) == NP_UNKNOWN_MODE);
     np_desk_close(&desk);
 }
 
@@ -237,6 +267,7 @@ static void beside(void) {
 int main(void) {
     opening();
     commands();
+    words();
     questions();
     places();
     beside();

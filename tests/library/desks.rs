@@ -29,11 +29,15 @@ fn answers() -> Result<(), Refused> {
     desk.set_weight(1, 2)?;
     desk.mbind(FIRST * 4096, 4096, "many:0-1")?;
     desk.set_home(FIRST * 4096, 4096, 1)?;
+    desk.mbind_by(FIRST * 4096, 4096, 5, &[0, 1])?; // (MPOL_PREFERRED_MANY)
+    desk.set_task_by(1, 2, &[1])?;
+    desk.home_by(FIRST * 4096, 4096, 1, 0)?;
+    assert_eq!(desk.home_by(FIRST * 4096, 4096, 1, 1), Err(Refused::FLAGS_FORBIDDEN));
     desk.unmap((FIRST + 1) * 4096, 4096)?;
     desk.set_mems("0-1")?;
-    assert_eq!((desk.versions(), reader.enter(0)?, desk.publish()?), ((8, 0), 0, 8));
-    assert_eq!(reader.enter(9), Err(Refused::NOT_YET));
-    assert_eq!((reader.version(), reader.enter(8)?), (0, 8));
+    assert_eq!((desk.versions(), reader.enter(0)?, desk.publish()?), ((11, 0), 0, 11));
+    assert_eq!(reader.enter(12), Err(Refused::NOT_YET));
+    assert_eq!((reader.version(), reader.enter(11)?), (0, 11));
     assert_eq!(reader.choice(1, FIRST, 0)?, [1, 0]);
     assert_eq!(reader.choice(1, FIRST + 1, 0), Err(Refused::UNMAPPED));
     let mut nodes = [9; 2];

@@ -12,6 +12,7 @@ use Rattle.numa_mode.specs.declared.modes.NodeFlag.TheVariants.{Plain}
 use Rattle.numa_mode.specs.declared.specification.SpecError.{SpecError}
 use Rattle.numa_mode.specs.declared.specification.SpecError.TheVariants.{FlagsForbidden}
 use Rattle.numa_pages.specs.Changes.{PagesState}
+use Rattle.numa_publish.specs.Shown.{DeskState}
 use Rattle.numa_script.specs.Policies.{spec_or_fault, waits_for_pages}
 use Rattle.numa_script.specs.declared.policy.WordError.{WordError}
 use Rattle.numaplan_c.specs.declared.nodes.NpNodes.{NpNodes}
@@ -44,6 +45,10 @@ rules_in (Some core) = core.space.machine.rules
 abbrev pub page_rules_in : Option PagesState → Rules
 page_rules_in None = Document
 page_rules_in (Some pages) = pages.core.space.machine.rules
+
+abbrev pub desk_rules_in : Option DeskState → Rules
+desk_rules_in None = Document
+desk_rules_in (Some desk) = desk.desk.machine.rules
 
 abbrev pub host_rules_in : Option RunningHost → Rules
 host_rules_in None = Document

@@ -2,6 +2,8 @@
 ghost use Rattle.std.specs.Prelude.{◌≡◌, ◌≢◌, ◌≤◌, [], Some, None, is_some, true, length};
 ghost use Rattle.std.specs.Prelude.{IfOk, IfErr, IfSome, MatchOption, MatchResult, is_ok};
 ghost use Rattle.numa_mask.specs.Lists.{list_of};
+ghost use Rattle.numa_mask.specs.Words.{number_of};
+ghost use Rattle.numa_mode.specs.Policy.{raw_specification};
 ghost use Rattle.numa_script.specs.Policies.{policy_of};
 ghost use Rattle.numa_machine.specs.declared.page_size.PageSize.{PageSize};
 ghost use Rattle.numa_requests.specs.declared.command.Command.{Command};
@@ -9,20 +11,25 @@ ghost use Rattle.numa_publish.specs.Shown.{accepted_commands};
 ghost use Rattle.numaplan_handles.specs.Desks.{IsReaderOf};
 ghost use Rattle.numaplan_handles.specs.Handles.{desk_in, reader_in};
 ghost use Rattle.numaplan_c.specs.Border.{Asked, Opens, bounds_of, described_cause};
-ghost use Rattle.numaplan_c.specs.Codes.{list_code, word_code};
+ghost use Rattle.numaplan_c.specs.Bound.{bound_spec, desk_rules_in, home_of, spec_by};
+ghost use Rattle.numaplan_c.specs.Codes.{list_code, spec_code, word_code};
 ghost use Rattle.numaplan_c.specs.Desks.{DeskAnswers, DeskAnswersRead, IsDeskSetUp, Published};
 ghost use Rattle.numaplan_c.specs.Desks.{order_code, readers_cause};
 ghost use Rattle.numaplan_c.specs.Options.{options_of};
 
-use crate::codes::{Code, list_code, refusal_code, word_code};
+use crate::binding::{bound_spec, home_of, raw_spec, spec_by};
+use crate::codes::{Code, list_code, refusal_code, spec_code, word_code};
 use crate::keeping::{ensure_closed, if_open, memory_code, or_return};
 use crate::machines::machine_of;
+use crate::nodes::NpNodes;
 use crate::opening::NpLimits;
 use crate::options::{NpOptions, Options, options_of};
-use numa_machine::{Machine, PageSize};
+use numa_machine::{Machine, PageSize, Rules};
 use numa_mask::read_list;
+use numa_mode::PolicySpec;
 use numa_publish::Desk;
 use numa_requests::{Command, Limits, Refusal};
+use numa_script::WordError;
 use numa_script::policy::read_policy;
 use numaplan_handles::{DeskHandle, ReaderHandle, ReaderLack};
 use std::alloc::Global;
@@ -191,6 +198,30 @@ pub extern "C" fn np_desk_unmap(
     tell!(alloc, desk => Unmap { start, length })
 }
 
+/// The rules by which a desk goes.
+fn desk_rules(alloc: Global, desk: &mut DeskHandle) -> Rules
+    ensures same { desk_in desk.new ≡ desk_in desk.old }
+    ensures rules { result ≡ desk_rules_in (desk_in desk.old) }
+{
+    desk.rules(alloc).unwrap_or(Rules::Document)
+}
+
+/// Sets the policy of a span's pages, as it was read.
+fn bind(
+    alloc: Global,
+    desk: &mut DeskHandle,
+    start: u64,
+    length: u64,
+    said: Result<PolicySpec, WordError>,
+) -> u32
+    ensures { DeskAnswersRead (bound_spec (desk_rules_in (desk_in desk.old)) length said) word_code
+        (λ spec. Command.Mbind start length spec) (desk_in desk.old) result (desk_in desk.new) }
+{
+    let rules = desk_rules(alloc, desk);
+    let spec = or_return!(bound_spec(rules, length, said), word_code);
+    tell!(alloc, desk => Mbind { start, length, spec })
+}
+
 /// Sets the policy of a span's pages.
 #[unsafe(no_mangle)]
 pub extern "C" fn np_desk_mbind(
@@ -200,11 +231,28 @@ pub extern "C" fn np_desk_mbind(
     length: u64,
     policy: &[u8],
 ) -> u32
-    ensures { DeskAnswersRead (policy_of policy.now) word_code
-        (λ spec. Command.Mbind start length spec) (desk_in desk.old) result (desk_in desk.new) }
+    ensures { DeskAnswersRead (bound_spec (desk_rules_in (desk_in desk.old)) length
+        (policy_of policy.now)) word_code (λ spec. Command.Mbind start length spec)
+        (desk_in desk.old) result (desk_in desk.new) }
 {
-    let spec = or_return!(read_policy(policy), word_code);
-    tell!(alloc, desk => Mbind { start, length, spec })
+    bind(alloc, desk, start, length, read_policy(policy))
+}
+
+/// Sets the policy of a span's pages, by a mode word and a set of nodes.
+#[unsafe(no_mangle)]
+pub extern "C" fn np_desk_mbind_by(
+    alloc: Global,
+    desk: &mut DeskHandle,
+    start: u64,
+    length: u64,
+    mode: u32,
+    nodes: &NpNodes,
+) -> u32
+    ensures { DeskAnswersRead (bound_spec (desk_rules_in (desk_in desk.old)) length
+        (spec_by mode nodes.now)) word_code (λ spec. Command.Mbind start length spec)
+        (desk_in desk.old) result (desk_in desk.new) }
+{
+    bind(alloc, desk, start, length, spec_by(mode, nodes))
 }
 
 /// Sets the policy of a task.
@@ -219,6 +267,22 @@ pub extern "C" fn np_desk_set_task(
         (desk_in desk.old) result (desk_in desk.new) }
 {
     let spec = or_return!(read_policy(policy), word_code);
+    tell!(alloc, desk => SetTask { task, spec })
+}
+
+/// Sets the policy of a task, by a mode word and a set of nodes.
+#[unsafe(no_mangle)]
+pub extern "C" fn np_desk_set_task_by(
+    alloc: Global,
+    desk: &mut DeskHandle,
+    task: u32,
+    mode: u32,
+    nodes: &NpNodes,
+) -> u32
+    ensures { DeskAnswersRead (raw_specification mode (number_of nodes.now.words)) spec_code
+        (λ spec. Command.SetTask task spec) (desk_in desk.old) result (desk_in desk.new) }
+{
+    let spec = or_return!(raw_spec(mode, nodes), spec_code);
     tell!(alloc, desk => SetTask { task, spec })
 }
 
@@ -243,6 +307,23 @@ pub extern "C" fn np_desk_set_home(
     ensures { DeskAnswers (desk_in desk.old) (Command.SetHome start length node) result
         (desk_in desk.new) }
 {
+    tell!(alloc, desk => SetHome { start, length, node })
+}
+
+/// The same by set_mempolicy_home_node(2)'s own words.
+#[unsafe(no_mangle)]
+pub extern "C" fn np_desk_home_by(
+    alloc: Global,
+    desk: &mut DeskHandle,
+    start: u64,
+    length: u64,
+    node: u64,
+    flags: u64,
+) -> u32
+    ensures { DeskAnswersRead (home_of node flags) spec_code
+        (λ home. Command.SetHome start length home) (desk_in desk.old) result (desk_in desk.new) }
+{
+    let node = or_return!(home_of(node, flags), spec_code);
     tell!(alloc, desk => SetHome { start, length, node })
 }
 

@@ -2,6 +2,7 @@
 use Rattle.std.specs.Prelude.{◌≡◌, ◌+◌, ℕ, [], ◌∷◌, length, Option, Some, None, Result, IfOk, IfErr}
 use Rattle.std.specs.Prelude.{OnOk, OnErr}
 use Rattle.numa_machine.specs.declared.no_memory.NoMemory.{NoMemory}
+use Rattle.numa_machine.specs.declared.rules.Rules.{Rules}
 use Rattle.numa_space.specs.Refusals.{refusal_of}
 use Rattle.numa_requests.specs.declared.command.Command.{Command}
 use Rattle.numa_requests.specs.declared.refusal.Refusal.{Refusal}
@@ -51,6 +52,10 @@ Shows old new answer = (before : DeskState) → old ≡ Some before →
 abbrev pub HasDeskVersions : Option DeskState → ℕ → ℕ → Type 0
 HasDeskVersions kept accepted published = (desk : DeskState) → kept ≡ Some desk →
     (accepted ≡ length (accepted_commands desk)) × (published ≡ length desk.published)
+
+-- its machine goes by these rules
+abbrev pub HasDeskRules : Option DeskState → Rules → Type 0
+HasDeskRules kept rules = (desk : DeskState) → kept ≡ Some desk → rules ≡ desk.desk.machine.rules
 
 -- a reader of the kept desk, which looks at what is published
 abbrev pub IsReaderOf : Option DeskState → ViewState → Type 0

@@ -2,14 +2,14 @@
 ghost use Rattle.std.specs.Prelude.{◌≡◌, Some, None, true, is_some, is_ok, IfOk, IfSome};
 ghost use Rattle.std.specs.Prelude.{MatchOption};
 ghost use Rattle.numaplan_handles.specs.Calls.{Asks, Calls, Keeps};
-ghost use Rattle.numaplan_handles.specs.Desks.{HasDeskVersions, IsOrdered, IsPublished, IsReaderOf};
-ghost use Rattle.numaplan_handles.specs.Desks.{Orders, Shows};
+ghost use Rattle.numaplan_handles.specs.Desks.{HasDeskRules, HasDeskVersions, IsOrdered};
+ghost use Rattle.numaplan_handles.specs.Desks.{IsPublished, IsReaderOf, Orders, Shows};
 ghost use Rattle.numaplan_handles.specs.Kinds.{CallsKept, desk_of, is_desk};
 
 use crate::handle::{Handle, of_kept};
 use crate::kept::{Kept, kept_as};
 use crate::reader_handle::{ReaderHandle, ReaderLack};
-use numa_machine::NoMemory;
+use numa_machine::{NoMemory, Rules};
 use numa_publish::{Desk, NoReader, PlanView};
 use numa_requests::{Command, Refusal};
 use std::alloc::{AllocError, Global};
@@ -76,6 +76,13 @@ fn versions_of(desk: &Desk) -> (u64, u64)
     (desk.space().version(), desk.published())
 }
 
+/// The rules of its machine.
+fn rules_of(desk: &Desk) -> Rules
+    ensures { HasDeskRules (Some desk.now) result }
+{
+    desk.space().machine().rules()
+}
+
 /// A reader that looks at what is published.
 fn view_kept(kept: &Kept) -> Result<PlanView, NoReader>
     requires desk { is_desk (Some kept.now) ≡ true }
@@ -126,6 +133,14 @@ impl DeskHandle {
             result (desk_in self.new) }
     {
         of_kept!(self.handle, alloc, kept => versions_of(desk_kept(&kept)))
+    }
+
+    /// The rules by which the desk goes. `None` if the handle is closed.
+    pub fn rules(&mut self, alloc: Global) -> Option<Rules>
+        ensures { Asks (HasDeskRules (desk_in self.old)) (desk_in self.old) result
+            (desk_in self.new) }
+    {
+        of_kept!(self.handle, alloc, kept => rules_of(desk_kept(&kept)))
     }
 
     /// Puts a new reader, which looks at what is published, into another, closed handle. `None` if

@@ -2,6 +2,7 @@
 
 use crate::calls::done;
 use crate::raw::{self, Counts, Handle, Limits};
+use crate::values::set_of;
 use crate::{Options, Refused};
 
 /// A desk: it accepts commands, and publishes them to up to 64 readers in other threads, each by one
@@ -102,6 +103,21 @@ impl Desk {
         })
     }
 
+    /// As `Core::mbind_by`.
+    ///
+    /// # Errors
+    /// As there.
+    pub fn mbind_by(
+        &mut self,
+        start: u64,
+        length: u64,
+        mode: u32,
+        nodes: &[u8],
+    ) -> Result<(), Refused> {
+        let nodes = set_of(nodes);
+        done(unsafe { raw::np_desk_mbind_by(&mut self.0, start, length, mode, &nodes) })
+    }
+
     /// As `Core::set_task`.
     ///
     /// # Errors
@@ -109,6 +125,15 @@ impl Desk {
     pub fn set_task(&mut self, task: u32, policy: &str) -> Result<(), Refused> {
         let text = policy.as_bytes();
         done(unsafe { raw::np_desk_set_task(&mut self.0, task, text.as_ptr(), text.len()) })
+    }
+
+    /// As `Core::set_task_by`.
+    ///
+    /// # Errors
+    /// As there.
+    pub fn set_task_by(&mut self, task: u32, mode: u32, nodes: &[u8]) -> Result<(), Refused> {
+        let nodes = set_of(nodes);
+        done(unsafe { raw::np_desk_set_task_by(&mut self.0, task, mode, &nodes) })
     }
 
     /// As `Core::inherit`.
@@ -125,6 +150,20 @@ impl Desk {
     /// As there.
     pub fn set_home(&mut self, start: u64, length: u64, node: u32) -> Result<(), Refused> {
         done(unsafe { raw::np_desk_set_home(&mut self.0, start, length, node) })
+    }
+
+    /// As `Core::home_by`.
+    ///
+    /// # Errors
+    /// As there.
+    pub fn home_by(
+        &mut self,
+        start: u64,
+        length: u64,
+        node: u64,
+        flags: u64,
+    ) -> Result<(), Refused> {
+        done(unsafe { raw::np_desk_home_by(&mut self.0, start, length, node, flags) })
     }
 
     /// As `Core::set_weight`.

@@ -287,9 +287,12 @@ extern "C" {
     pub(crate) fn np_desk_map_huge(desk: &mut Handle, start: u64, length: u64, offset: u64) -> u32;
     pub(crate) fn np_desk_unmap(desk: &mut Handle, start: u64, length: u64) -> u32;
     pub(crate) fn np_desk_mbind(desk: &mut Handle, start: u64, length: u64, policy: *const u8, policy_length: usize) -> u32;
+    pub(crate) fn np_desk_mbind_by(desk: &mut Handle, start: u64, length: u64, mode: u32, nodes: &Nodes) -> u32;
     pub(crate) fn np_desk_set_task(desk: &mut Handle, task: u32, policy: *const u8, policy_length: usize) -> u32;
+    pub(crate) fn np_desk_set_task_by(desk: &mut Handle, task: u32, mode: u32, nodes: &Nodes) -> u32;
     pub(crate) fn np_desk_inherit(desk: &mut Handle, task: u32, from: u32) -> u32;
     pub(crate) fn np_desk_set_home(desk: &mut Handle, start: u64, length: u64, node: u32) -> u32;
+    pub(crate) fn np_desk_home_by(desk: &mut Handle, start: u64, length: u64, node: u64, flags: u64) -> u32;
     pub(crate) fn np_desk_set_weight(desk: &mut Handle, node: u32, weight: u32) -> u32;
     pub(crate) fn np_desk_set_mems(desk: &mut Handle, nodes: *const u8, nodes_length: usize) -> u32;
     pub(crate) fn np_desk_publish(desk: &mut Handle, version: &mut u64) -> u32;
