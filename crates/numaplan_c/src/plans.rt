@@ -20,7 +20,8 @@ use crate::texts::{copy_code, length_copied};
 use numa_machine::{NoMemory, PlaceRefusal};
 use numa_page_state::Toucher;
 use numa_plan::{PageTurns, Plan};
-use numaplan_handles::{ChoiceRefusal, CoreHandle, PlanHandle, PlanView};
+use numa_requests::Request;
+use numaplan_handles::{ChoiceRefusal, CoreHandle, PageSpan, PlanHandle, PlanView};
 use std::alloc::Global;
 
 /// The commands of a core for which a plan is made.
@@ -163,7 +164,8 @@ pub extern "C" fn np_plan_choice(
         × Chooses (plan_seen plan.now) task page cpu answer nodes.old nodes.new
         × AreTold answer count.old count.new) }
 {
-    if_open!(plan.choose(task, page, cpu, nodes), answer => tell_choice(answer, count))
+    let asked = Request { task, page, cpu };
+    if_open!(plan.choose(asked, nodes), answer => tell_choice(answer, count))
 }
 
 /// The code of the result of a question about a span.
@@ -266,7 +268,7 @@ pub extern "C" fn np_plan_counts(
         (cause : PlaceRefusal) × (result ≡ place_code cause)
         × Counts (plan_seen plan.now) task first pages cpu (Err cause) }
 {
-    match plan.counts(task, first, pages, cpu) {
+    match plan.counts(Toucher { task, cpu }, PageSpan { first, pages }) {
         None => Code::Closed as u32,
         Some(Ok(found)) => {
             counts.pages = found;

@@ -13,8 +13,10 @@ ghost use Rattle.numaplan_c.specs.Questions.{AreTold, choice_code, fill_code};
 use crate::codes::{Code, place_code};
 use crate::keeping::{if_open, tell_if_open};
 use crate::plans::{NpCounts, fill_code, tell_choice};
+use numa_page_state::Toucher;
 use numa_publish::LookRefusal;
-use numaplan_handles::{ReaderHandle, ReaderView};
+use numa_requests::Request;
+use numaplan_handles::{PageSpan, ReaderHandle, ReaderView};
 use std::alloc::Global;
 
 /// Looks at the newest version.
@@ -64,7 +66,8 @@ pub extern "C" fn np_reader_choice(
         × ChoosesSeen (reader_seen reader.now) task page cpu nodes.old nodes.new answer
         × AreTold answer count.old count.new) }
 {
-    if_open!(reader.choose(task, page, cpu, nodes), answer => tell_choice(answer, count))
+    let asked = Request { task, page, cpu };
+    if_open!(reader.choose(asked, nodes), answer => tell_choice(answer, count))
 }
 
 /// Writes the first node of each page's list.
@@ -80,7 +83,7 @@ pub extern "C" fn np_reader_fill(
         (λ kept. (answer : Result (Unit {0}) PlaceRefusal) × (result ≡ fill_code answer)
         × FillsSeen (reader_seen reader.now) task first cpu answer nodes.old nodes.new) }
 {
-    if_open!(reader.fill(task, first, cpu, nodes), answer => fill_code(answer))
+    if_open!(reader.fill(Toucher { task, cpu }, first, nodes), answer => fill_code(answer))
 }
 
 /// Counts, for each node, the pages of a span whose list begins with it.
@@ -101,7 +104,7 @@ pub extern "C" fn np_reader_counts(
         (cause : PlaceRefusal) × (result ≡ place_code cause)
         × CountsSeen (reader_seen reader.now) task first pages cpu (Err cause) }
 {
-    match reader.counts(task, first, pages, cpu) {
+    match reader.counts(Toucher { task, cpu }, PageSpan { first, pages }) {
         None => Code::Closed as u32,
         Some(Ok(found)) => {
             counts.pages = found;

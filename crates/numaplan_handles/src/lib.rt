@@ -45,7 +45,7 @@ pub use host_handle::HostHandle;
 pub use kept::Kept;
 pub use pages_handle::PagesHandle;
 pub use plan_handle::PlanHandle;
-pub use plan_view::{ChoiceRefusal, PlanView};
+pub use plan_view::{ChoiceRefusal, PageSpan, PlanView};
 pub use reader_handle::{ReaderHandle, ReaderLack};
 pub use reader_view::ReaderView;
 pub use room::copy_items;

@@ -22,6 +22,15 @@ pub struct PlanView {
     ghost kind: { is_plan view.held.kept ≡ true },
 }
 
+/// The pages of a span.
+#[derive(Clone, Copy, Debug, PartialEq, Eq)]
+pub struct PageSpan {
+    /// The first page.
+    pub first: u64,
+    /// How many there are.
+    pub pages: u64,
+}
+
 /// Why the list of a page wasn't copied.
 #[derive(Clone, Copy, Debug, PartialEq, Eq)]
 pub enum ChoiceRefusal {
@@ -109,8 +118,7 @@ impl PlanView {
         ensures { MatchOption result (plan_seen self.now ≡ None)
             (λ plan. plan_seen self.now ≡ Some plan.now) }
     {
-        let kept = self.view.lent()?;
-        Some(plan_kept(kept))
+        Some(plan_kept(self.view.lent()?))
     }
 
     /// The version of the plan. `None` if the handle is closed.
@@ -127,40 +135,28 @@ impl PlanView {
     ///
     /// # Errors
     /// As [`Plan::fallback_list`], and `TooShort`: there is no room for the list.
-    pub fn choose(
-        &self,
-        task: u32,
-        page: u64,
-        cpu: u32,
-        nodes: &mut [u8],
-    ) -> Option<Result<usize, ChoiceRefusal>>
-        ensures chooses { Reads (λ answer.
-            Chooses (plan_seen self.now) task page cpu answer nodes.old nodes.new)
-            (plan_seen self.now) result }
+    pub fn choose(&self, asked: Request, nodes: &mut [u8]) -> Option<Result<usize, ChoiceRefusal>>
+        ensures chooses { Reads (λ answer. Chooses (plan_seen self.now) asked.task asked.page
+            asked.cpu answer nodes.old nodes.new) (plan_seen self.now) result }
         ensures closed { plan_seen self.now ≡ None → nodes.new ≡ nodes.old }
     {
         let plan = self.plan()?;
-        Some(choose(plan, Request { task, page, cpu }, nodes))
+        Some(choose(plan, asked, nodes))
     }
 
-    /// Writes the first node of each page's list, for as many pages from page `first` on as there
+    /// Writes the first node of each page's list, for as many pages from page `page` on as there
     /// are places. `None` if the handle is closed.
     ///
     /// # Errors
     /// As [`Plan::fill`].
-    pub fn fill(
-        &self,
-        by: Toucher,
-        first: u64,
-        nodes: &mut [u8],
-    ) -> Option<Result<(), PlaceRefusal>>
+    pub fn fill(&self, by: Toucher, page: u64, nodes: &mut [u8]) -> Option<Result<(), PlaceRefusal>>
         ensures fills { Reads (λ answer.
-            Fills (plan_seen self.now) by.task first by.cpu answer nodes.old nodes.new)
+            Fills (plan_seen self.now) by.task page by.cpu answer nodes.old nodes.new)
             (plan_seen self.now) result }
         ensures closed { plan_seen self.now ≡ None → nodes.new ≡ nodes.old }
     {
         let plan = self.plan()?;
-        Some(plan.fill(by.task, first, by.cpu, nodes))
+        Some(plan.fill(by.task, page, by.cpu, nodes))
     }
 
     /// The same, with the mark `unmapped` for pages that aren't mapped. `None` if the handle is
@@ -222,17 +218,11 @@ impl PlanView {
     ///
     /// # Errors
     /// As [`Plan::counts`].
-    pub fn counts(
-        &self,
-        task: u32,
-        first: u64,
-        pages: u64,
-        cpu: u32,
-    ) -> Option<Result<[u64; 256], PlaceRefusal>>
-        ensures { Reads (Counts (plan_seen self.now) task first pages cpu)
+    pub fn counts(&self, by: Toucher, span: PageSpan) -> Option<Result<[u64; 256], PlaceRefusal>>
+        ensures { Reads (Counts (plan_seen self.now) by.task span.first span.pages by.cpu)
             (plan_seen self.now) result }
     {
         let plan = self.plan()?;
-        Some(plan.counts(task, first, pages, cpu))
+        Some(plan.counts(by.task, span.first, span.pages, by.cpu))
     }
 }

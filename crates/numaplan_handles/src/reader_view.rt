@@ -5,10 +5,11 @@ ghost use Rattle.numaplan_handles.specs.Kinds.{is_reader, reader_of};
 ghost use Rattle.numaplan_handles.specs.Readers.{ChoosesSeen, CountsSeen, FillsSeen, IsSeenVersion};
 
 use crate::kept::{Kept, kept_as};
-use crate::plan_view::ChoiceRefusal;
+use crate::plan_view::{ChoiceRefusal, PageSpan};
 use crate::room::copy_items;
 use crate::view::View;
 use numa_machine::PlaceRefusal;
+use numa_page_state::Toucher;
 use numa_publish::PlanView;
 use numa_requests::Request;
 
@@ -47,8 +48,7 @@ impl ReaderView {
         ensures { MatchOption result (reader_seen self.now ≡ None)
             (λ view. reader_seen self.now ≡ Some view.now) }
     {
-        let kept = self.view.lent()?;
-        Some(reader_kept(kept))
+        Some(reader_kept(self.view.lent()?))
     }
 
     /// The version at which it looks. `None` if the handle is closed.
@@ -64,39 +64,27 @@ impl ReaderView {
     ///
     /// # Errors
     /// As [`PlanView::fallback_list`], and `TooShort`: there is no room for the list.
-    pub fn choose(
-        &self,
-        task: u32,
-        page: u64,
-        cpu: u32,
-        nodes: &mut [u8],
-    ) -> Option<Result<usize, ChoiceRefusal>>
-        ensures chooses { Reads (ChoosesSeen (reader_seen self.now) task page cpu nodes.old
-            nodes.new) (reader_seen self.now) result }
-        ensures closed { reader_seen self.now ≡ None → nodes.new ≡ nodes.old }
-    {
-        let view = self.reader()?;
-        Some(choose(view, Request { task, page, cpu }, nodes))
-    }
-
-    /// Writes the first node of each page's list, for as many pages from page `first` on as there
-    /// are places. `None` if the handle is closed.
-    ///
-    /// # Errors
-    /// As [`PlanView::fill`].
-    pub fn fill(
-        &self,
-        task: u32,
-        first: u64,
-        cpu: u32,
-        nodes: &mut [u8],
-    ) -> Option<Result<(), PlaceRefusal>>
-        ensures fills { Reads (λ answer. FillsSeen (reader_seen self.now) task first cpu answer
+    pub fn choose(&self, asked: Request, nodes: &mut [u8]) -> Option<Result<usize, ChoiceRefusal>>
+        ensures chooses { Reads (ChoosesSeen (reader_seen self.now) asked.task asked.page asked.cpu
             nodes.old nodes.new) (reader_seen self.now) result }
         ensures closed { reader_seen self.now ≡ None → nodes.new ≡ nodes.old }
     {
         let view = self.reader()?;
-        Some(view.fill(task, first, cpu, nodes))
+        Some(choose(view, asked, nodes))
+    }
+
+    /// Writes the first node of each page's list, for as many pages from page `page` on as there
+    /// are places. `None` if the handle is closed.
+    ///
+    /// # Errors
+    /// As [`PlanView::fill`].
+    pub fn fill(&self, by: Toucher, page: u64, nodes: &mut [u8]) -> Option<Result<(), PlaceRefusal>>
+        ensures fills { Reads (λ answer. FillsSeen (reader_seen self.now) by.task page by.cpu answer
+            nodes.old nodes.new) (reader_seen self.now) result }
+        ensures closed { reader_seen self.now ≡ None → nodes.new ≡ nodes.old }
+    {
+        let view = self.reader()?;
+        Some(view.fill(by.task, page, by.cpu, nodes))
     }
 
     /// Counts, for each node, the pages of a span whose list begins with it. `None` if the handle
@@ -104,17 +92,11 @@ impl ReaderView {
     ///
     /// # Errors
     /// As [`PlanView::counts`].
-    pub fn counts(
-        &self,
-        task: u32,
-        first: u64,
-        pages: u64,
-        cpu: u32,
-    ) -> Option<Result<[u64; 256], PlaceRefusal>>
-        ensures { Reads (CountsSeen (reader_seen self.now) task first pages cpu)
+    pub fn counts(&self, by: Toucher, span: PageSpan) -> Option<Result<[u64; 256], PlaceRefusal>>
+        ensures { Reads (CountsSeen (reader_seen self.now) by.task span.first span.pages by.cpu)
             (reader_seen self.now) result }
     {
         let view = self.reader()?;
-        Some(view.counts(task, first, pages, cpu))
+        Some(view.counts(by.task, span.first, span.pages, by.cpu))
     }
 }
