@@ -22,7 +22,7 @@ use crate::host_commands::obey;
 use crate::keeping::{if_open, or_return};
 use crate::moves::NpBound;
 use crate::nodes::NpNodes;
-use crate::placed_codes::changed_code;
+use crate::placed_codes::{changed, changed_code};
 use crate::placed_commands::obey as obey_core;
 use numa_mode::PolicySpec;
 use numa_page_state::{Rebinding, Toucher};
@@ -108,7 +108,7 @@ pub extern "C" fn np_pages_mbind_by(
 fn strict(alloc: Global, pages: &mut PagesHandle, start: u64, length: u64, spec: PolicySpec) -> u32
     ensures { PagesAnswer change_code (BindsStrictly start length spec) pages.old result pages.new }
 {
-    if_open!(pages.bind_strictly(alloc, start, length, spec), answer => changed_code(answer))
+    changed!(pages.bind_strictly(alloc, start, length, spec))
 }
 
 /// The same for a policy as it was read.

@@ -87,3 +87,12 @@ pub(crate) fn changed_code<A: Drop>(answer: Result<A, ChangeRefusal>) -> u32
     let _ = or_return!(answer, change_code);
     0
 }
+
+/// The same, for a result that is missing if the handle is closed.
+macro_rules! changed {
+    ($answer:expr) => {
+        $crate::keeping::if_open!($answer, answer => $crate::placed_codes::changed_code(answer))
+    };
+}
+
+pub(crate) use changed;

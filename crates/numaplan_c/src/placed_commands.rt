@@ -13,9 +13,9 @@ ghost use Rattle.numa_pages.specs.PoolCalls.{MapsHuge};
 
 use crate::binding::{home_of, raw_spec};
 use crate::codes::{list_code, spec_code, word_code};
-use crate::keeping::{if_open, or_return};
+use crate::keeping::or_return;
 use crate::nodes::NpNodes;
-use crate::placed_codes::changed_code;
+use crate::placed_codes::changed;
 use numa_machine::PageSize;
 use numa_mask::read_list;
 use numa_pages::HugeMapping;
@@ -28,7 +28,7 @@ use std::alloc::Global;
 pub(crate) fn obey(alloc: Global, pages: &mut PagesHandle, command: Command) -> u32
     ensures { PagesAnswer change_code (Accepts command) pages.old result pages.new }
 {
-    if_open!(pages.accept(alloc, &command), answer => changed_code(answer))
+    changed!(pages.accept(alloc, &command))
 }
 
 /// The same, by the command's name and fields.
@@ -180,7 +180,7 @@ pub extern "C" fn np_pages_place(
 ) -> u32
     ensures { PagesAnswer change_code (Places start length node) pages.old result pages.new }
 {
-    if_open!(pages.place(alloc, start, length, node), answer => changed_code(answer))
+    changed!(pages.place(alloc, start, length, node))
 }
 
 /// Maps a span as pages of 2 MiB, which its task reserves or doesn't.
@@ -209,5 +209,5 @@ pub extern "C" fn np_pages_map_huge(
         task,
         reserves: reserve,
     };
-    if_open!(pages.map_huge(alloc, &said), answer => changed_code(answer))
+    changed!(pages.map_huge(alloc, &said))
 }
