@@ -1,6 +1,6 @@
 //! Desks: opening, commands, publishing, and readers of what is published.
 ghost use Rattle.std.specs.Prelude.{◌≡◌, ◌≢◌, ◌≤◌, [], Some, None, is_some, true, length};
-ghost use Rattle.std.specs.Prelude.{IfOk, IfErr, IfSome, MatchOption, MatchResult, is_ok};
+ghost use Rattle.std.specs.Prelude.{IfOk, IfErr, IfSome, MatchOption, MatchResult, Ok, is_ok};
 ghost use Rattle.numa_mask.specs.Lists.{list_of};
 ghost use Rattle.numa_mask.specs.Words.{number_of};
 ghost use Rattle.numa_mode.specs.Policy.{raw_specification};
@@ -27,7 +27,7 @@ use crate::options::{NpOptions, Options, options_of};
 use numa_machine::{Machine, PageSize, Rules};
 use numa_mask::read_list;
 use numa_mode::PolicySpec;
-use numa_publish::Desk;
+use numa_publish::{Desk, NoReader, PlanView};
 use numa_requests::{Command, Limits, Refusal};
 use numa_script::WordError;
 use numa_script::policy::read_policy;
@@ -386,6 +386,23 @@ pub extern "C" fn np_desk_versions(
     })
 }
 
+/// Opens a handle with a reader that was made, if there is one.
+fn keep(alloc: Global, made: Option<Result<PlanView, NoReader>>, reader: &mut ReaderHandle) -> u32
+    requires closed { reader_in reader.old ≡ None }
+    ensures opens { Opens (reader_in reader.old) result (reader_in reader.new) }
+    ensures kept { IfSome (reader_in reader.new) (λ view. made ≡ Some (Ok view)) }
+    ensures closed { made ≡ None → result ≡ 1 }
+{
+    let Some(made) = made else {
+        return Code::Closed as u32;
+    };
+    match reader.keep(alloc, made) {
+        Err(ReaderLack::NoPlace) => Code::NoPlace as u32,
+        Err(ReaderLack::NoMemory) => Code::NoMemory as u32,
+        Ok(()) => 0,
+    }
+}
+
 /// Opens a handle with a new reader, which looks at what is published.
 #[unsafe(no_mangle)]
 pub extern "C" fn np_desk_reader(
@@ -401,12 +418,8 @@ pub extern "C" fn np_desk_reader(
     ensures closed { reader_in reader.old ≡ None → desk_in desk.old ≡ None → result ≡ 1 }
 {
     ensure_closed!(reader);
-    match desk.reader(alloc, reader) {
-        None => Code::Closed as u32,
-        Some(Err(ReaderLack::NoPlace)) => Code::NoPlace as u32,
-        Some(Err(ReaderLack::NoMemory)) => Code::NoMemory as u32,
-        Some(Ok(())) => 0,
-    }
+    let made = desk.view(alloc);
+    keep(alloc, made, reader)
 }
 
 /// Frees a desk. Its readers keep what they have.

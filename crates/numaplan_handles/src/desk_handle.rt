@@ -1,6 +1,5 @@
 //! A handle of a desk.
-ghost use Rattle.std.specs.Prelude.{◌≡◌, Some, None, true, is_some, is_ok, IfOk, IfSome};
-ghost use Rattle.std.specs.Prelude.{MatchOption};
+ghost use Rattle.std.specs.Prelude.{◌≡◌, Some, None, true, IfOk};
 ghost use Rattle.numaplan_handles.specs.Calls.{Asks, Calls, Keeps};
 ghost use Rattle.numaplan_handles.specs.Desks.{HasDeskRules, HasDeskVersions, IsOrdered};
 ghost use Rattle.numaplan_handles.specs.Desks.{IsPublished, IsReaderOf, Orders, Shows};
@@ -8,7 +7,6 @@ ghost use Rattle.numaplan_handles.specs.Kinds.{CallsKept, desk_of, is_desk};
 
 use crate::handle::{Handle, of_kept};
 use crate::kept::{Kept, kept_as};
-use crate::reader_handle::{ReaderHandle, ReaderLack};
 use numa_machine::{NoMemory, Rules};
 use numa_publish::{Desk, NoReader, PlanView};
 use numa_requests::{Command, Refusal};
@@ -92,7 +90,7 @@ fn view_kept(kept: &Kept) -> Result<PlanView, NoReader>
 }
 
 impl DeskHandle {
-    ghost use Rattle.numaplan_handles.specs.Handles.{desk_in, reader_in};
+    ghost use Rattle.numaplan_handles.specs.Handles.{desk_in};
 
     /// Puts a desk into a closed handle.
     ///
@@ -143,28 +141,14 @@ impl DeskHandle {
         of_kept!(self.handle, alloc, kept => rules_of(desk_kept(&kept)))
     }
 
-    /// Puts a new reader, which looks at what is published, into another, closed handle. `None` if
-    /// this one is closed.
+    /// A new reader, which looks at what is published. `None` if the handle is closed.
     ///
     /// # Errors
-    /// `NoPlace`: each reader's place is in use; else `NoMemory`.
-    pub fn reader(
-        &mut self,
-        alloc: Global,
-        reader: &mut ReaderHandle,
-    ) -> Option<Result<(), ReaderLack>>
-        requires closed { reader_in reader.old ≡ None }
-        ensures same { desk_in self.new ≡ desk_in self.old }
-        ensures closed { desk_in self.old ≡ None → result ≡ None }
-        ensures told { MatchOption result
-            ((desk_in self.old ≡ None) × (reader_in reader.new ≡ None))
-            (λ it. (is_some (desk_in self.old) ≡ true)
-            × (is_some (reader_in reader.new) ≡ is_ok it)) }
-        ensures reader { IfSome (reader_in reader.new) (IsReaderOf (desk_in self.old)) }
+    /// In the `Some`, as [`Desk::view`].
+    pub fn view(&mut self, alloc: Global) -> Option<Result<PlanView, NoReader>>
+        ensures { Asks (λ made. IfOk made (IsReaderOf (desk_in self.old))) (desk_in self.old) result
+            (desk_in self.new) }
     {
-        let kept = self.handle.take(alloc)?;
-        let made = view_kept(&kept);
-        self.handle.put(kept);
-        Some(reader.keep(alloc, made))
+        of_kept!(self.handle, alloc, kept => view_kept(&kept))
     }
 }

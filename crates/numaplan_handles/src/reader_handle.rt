@@ -65,7 +65,7 @@ impl ReaderHandle {
     ///
     /// # Errors
     /// `NoPlace`: none was made; `NoMemory`: out of memory, and the reader is dropped.
-    pub(crate) fn keep(
+    pub fn keep(
         &mut self,
         alloc: Global,
         made: Result<PlanView, NoReader>,
