@@ -1,7 +1,7 @@
 //! Questions about the state that scripts lead to.
 use crate::differing::difference;
 use crate::explaining::{ExplainAsked, explanation_after};
-use crate::touching::from_pools;
+use crate::first_touches::from_pools;
 use numa_host_script::HostScript;
 use numa_placed::Placed;
 use numa_play::{Findings, HugeCount, Look, PLAIN, Scripts, answer, plain_by, play, subject_of};

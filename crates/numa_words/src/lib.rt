@@ -13,6 +13,7 @@ mod asking;
 mod deeds;
 mod differing;
 mod explaining;
+mod first_touches;
 mod moving;
 mod placing;
 mod pooling;

@@ -1,20 +1,29 @@
-//! Pages of 2 MiB after scripts, once each was touched: where they lie, by what their pools have.
-ghost use Rattle.std.specs.Prelude.{◌≤◌, ◌+◌, ◌<◌, ◌^◌};
+//! Pages of 2 MiB once each was touched: where they lie, by what their pools have.
+ghost use Rattle.std.specs.Prelude.{◌≡◌, ◌≤◌, ◌+◌, ◌*◌, ◌<◌, ◌^◌, [], ℕ, IfOk, OnOk, Some};
+ghost use Rattle.std.specs.Prelude.{if◌then◌else◌, length, slice_get, slice_index};
+ghost use Rattle.std.specs.Option.{option_copied};
+ghost use Rattle.numa_host_huge.specs.Sharing.{Sharing, memory_in};
+ghost use Rattle.numa_host_huge.specs.Standing.{HugeLies};
+ghost use Rattle.numa_huge.specs.Huge.{huge_at, places_of};
+ghost use Rattle.numa_placed.specs.Laid.{spot_at};
+ghost use Rattle.numa_ranges.specs.Runs.{in_pages};
+ghost use Rattle.numa_words.specs.Touching.{AreGiven, IsAdded, IsTold, LieSo, Told};
+ghost use Rattle.numa_words.specs.Touching.{all_touched, counted, is_asked, nobody, part_spot};
+ghost use Rattle.numa_words.specs.Touching.{parts_node, spots_if, spots_lent, spots_there};
+ghost use Rattle.numa_words.specs.Touching.{told_by, told_each, told_from, told_if, touched_in};
+ghost use Rattle.numa_words.specs.Touching.{with_lying, with_parts, with_parts_if};
 
 use numa_answers::FromPools;
 use numa_host::{Host, Process};
 use numa_host_huge::HostHuge;
 use numa_host_pages::HostPages;
-use numa_host_script::HostScript;
 use numa_huge::{HugePages, HugePlaces};
-use numa_lines::RunFault;
 use numa_machine::NoMemory;
 use numa_page_state::binding::page_count;
 use numa_placed::Placed;
 use numa_requests::PAGE_BYTES;
 use numa_sheets::Touch;
 use numa_space::Space;
-use numa_subjects::Halt;
 use std::alloc::Global;
 
 /// The pages of 4 KiB of one of 2 MiB.
@@ -35,7 +44,10 @@ pub(crate) struct Touched {
 }
 
 /// No page.
-fn no_pages() -> FromPools {
+fn no_pages() -> FromPools
+    ensures on { (node : ℕ) → node < 256 → slice_index result.on node ≡ 0 }
+    ensures exhausted { result.exhausted ≡ 0 }
+{
     FromPools {
         on: [0; 256],
         exhausted: 0,
@@ -43,7 +55,11 @@ fn no_pages() -> FromPools {
 }
 
 /// Adds the pages that lie on each node.
-fn add_counts(said: &mut FromPools, places: &HugePlaces) {
+fn add_counts(said: &mut FromPools, places: &HugePlaces)
+    ensures on { (node : ℕ) → node < 256 → slice_index said.new.on node
+        ≡ counted (Some (huge_at places.now.runs)) node (slice_index said.old.on node) }
+    ensures exhausted { said.new.exhausted ≡ said.old.exhausted }
+{
     let counts = places.counts_in(0, MOST_PAGES);
     for node in 0..256usize {
         said.on[node] = said.on[node].saturating_add(counts.on[node]);
@@ -52,9 +68,22 @@ fn add_counts(said: &mut FromPools, places: &HugePlaces) {
 
 /// The first number that is no node's, on which parts lie of pages that no node gave. A machine of
 /// 256 nodes has none.
-fn nobody(space: &Space) -> Option<u8> {
+fn nobody(space: &Space) -> Option<u8>
+    ensures { result ≡ nobody space.now.machine.nodes }
+{
     let nodes = space.machine().nodes();
     if nodes < 256 { Some(nodes as u8) } else { None }
+}
+
+/// The node on which the parts of a page lie: its own, or of one that lies nowhere that of nobody;
+/// `None` if there is none.
+fn parts_node(places: &HugePlaces, page: u64, spare: Option<u8>) -> Option<u8>
+    ensures { result ≡ parts_node spare (huge_at places.now.runs page) }
+{
+    match places.at(page) {
+        Some(spot) => spot.node().or(spare),
+        None => None,
+    }
 }
 
 /// States that the parts of pages lie where these lie, of which the same is known.
@@ -67,11 +96,12 @@ fn state_run(
 ) -> Result<(), NoMemory>
     requires some { 0 < pages }
     requires within { first + pages ≤ 2 ^ 26 }
+    ensures { OnOk result ((page : ℕ) → spot_at lying.new page
+        ≡ (if in_pages (first * 512) (pages * 512) page
+        then part_spot (nobody space.now.machine.nodes) (huge_at places.now.runs first)
+        (spot_at lying.old page) else spot_at lying.old page)) }
 {
-    let Some(spot) = places.at(first) else {
-        return Ok(());
-    };
-    let Some(node) = spot.node().or(nobody(space)) else {
+    let Some(node) = parts_node(places, first, nobody(space)) else {
         return Ok(());
     };
     match lying.set(first * PARTS, pages * PARTS, node) {
@@ -81,22 +111,62 @@ fn state_run(
 }
 
 /// The same of all pages.
-fn state_all(lying: &mut Placed, places: &HugePlaces, space: &Space) -> Result<(), NoMemory> {
+fn state_all(lying: &mut Placed, places: &HugePlaces, space: &Space) -> Result<(), NoMemory>
+    ensures { OnOk result (LieSo lying.new (with_parts (nobody space.now.machine.nodes)
+        (huge_at places.now.runs) (spot_at lying.old))) }
+{
     let mut page = 0;
     while page < MOST_PAGES {
         let next = places.alike_end(page, MOST_PAGES);
-        state_run(lying, places, space, page, next - page)?;
+        let Ok(()) = state_run(lying, places, space, page, next - page) else {
+            return Err(NoMemory);
+        };
         page = next;
     }
     Ok(())
 }
 
 /// Where pages lie that are there.
-fn copy_of(alloc: Global, there: Option<&Placed>) -> Result<Placed, NoMemory> {
+fn copy_of(alloc: Global, there: Option<&Placed>) -> Result<Placed, NoMemory>
+    ensures { IfOk result (λ copy. (page : ℕ) → spot_at copy page
+        ≡ spots_there (option_copied there.entry) page) }
+{
     match there {
         Some(placed) => placed.copy(),
         None => Placed::new(alloc),
     }
+}
+
+/// States where the parts of all pages of a process lie, if it has some.
+fn state_if(lying: &mut Placed, places: Option<&HugePlaces>, space: &Space) -> Result<(), NoMemory>
+    ensures { OnOk result (LieSo lying.new (with_parts_if (nobody space.now.machine.nodes)
+        (spots_lent places.entry) (spot_at lying.old))) }
+{
+    match places {
+        Some(places) => state_all(lying, places, space),
+        None => Ok(()),
+    }
+}
+
+/// Where the pages of a process lie that are there, with the parts of those of 2 MiB, if it has
+/// some.
+fn lying_of(
+    alloc: Global,
+    places: Option<&HugePlaces>,
+    space: &Space,
+    there: Option<&Placed>,
+) -> Result<Placed, NoMemory>
+    ensures { IfOk result (λ placed. LieSo placed (with_parts_if (nobody space.now.machine.nodes)
+        (spots_lent places.entry) (spots_there (option_copied there.entry)))) }
+{
+    let Ok(mut placed) = copy_of(alloc, there) else {
+        return Err(NoMemory);
+    };
+    if let Err(why) = state_if(&mut placed, places, space) {
+        drop(placed);
+        return Err(why);
+    }
+    Ok(placed)
 }
 
 /// Adds where the pages of a process lie, with the parts of those of 2 MiB, if it has some.
@@ -106,18 +176,18 @@ fn add_lying(
     places: Option<&HugePlaces>,
     space: &Space,
     there: &[Placed],
-) -> Result<(), NoMemory> {
-    let mut placed = copy_of(alloc, there.get(lying.len()))?;
-    if let Some(places) = places {
-        if let Err(why) = state_all(&mut placed, places, space) {
-            drop(placed);
-            return Err(why);
-        }
-    }
-    match lying.push(placed) {
-        Ok(()) => Ok(()),
-        Err(_) => Err(NoMemory),
-    }
+) -> Result<(), NoMemory>
+    ensures { OnOk result (IsAdded lying.old.items lying.new.items
+        (with_parts_if (nobody space.now.machine.nodes) (spots_lent places.entry)
+        (spots_there (slice_get there.now (length lying.old.items))))) }
+{
+    let Ok(placed) = lying_of(alloc, places, space, there.get(lying.len())) else {
+        return Err(NoMemory);
+    };
+    let Ok(()) = lying.push(placed) else {
+        return Err(NoMemory);
+    };
+    Ok(())
 }
 
 /// Touches all pages of one process, and says where they lie then.
@@ -125,7 +195,12 @@ fn touched_own(
     kept: &HugePages,
     space: &Space,
     touch: Touch,
-) -> Result<(HugePlaces, FromPools), NoMemory> {
+) -> Result<(HugePlaces, FromPools), NoMemory>
+    ensures places { IfOk result (λ done. places_of done.0
+        ≡ (all_touched space.now touch (places_of kept.now.places)).huge) }
+    ensures said { IfOk result (λ done. AreGiven done.1
+        (all_touched space.now touch (places_of kept.now.places))) }
+{
     let Touch { task, cpu } = touch;
     let touched = match kept.places.populated(space, 0, MOST_PAGES, task, cpu) {
         Ok(touched) => touched,
@@ -139,28 +214,32 @@ fn touched_own(
 }
 
 /// Where all pages of one process lie, once each was touched.
-fn from_own(
+pub(crate) fn from_own(
     alloc: Global,
     kept: &HugePages,
     space: &Space,
     touch: Touch,
     there: &[Placed],
-) -> Result<Touched, NoMemory> {
-    let done = match touched_own(kept, space, touch) {
-        Ok(done) => done,
-        Err(why) => return Err(why),
+) -> Result<Touched, NoMemory>
+    ensures said { IfOk result (λ touched. AreGiven touched.said
+        (all_touched space.now touch (places_of kept.now.places))) }
+    ensures lying { IfOk result (λ touched. IsAdded [] touched.lying.items (with_parts
+        (nobody space.now.machine.nodes)
+        (all_touched space.now touch (places_of kept.now.places)).huge.spots
+        (spots_there (slice_get there.now 0)))) }
+{
+    let Ok(done) = touched_own(kept, space, touch) else {
+        return Err(NoMemory);
     };
     let (places, said) = done;
     let mut lying = Vec::new(alloc);
-    let added = add_lying(alloc, &mut lying, Some(&places), space, there);
+    let Ok(()) = add_lying(alloc, &mut lying, Some(&places), space, there) else {
+        drop(places);
+        drop(lying);
+        return Err(NoMemory);
+    };
     drop(places);
-    match added {
-        Ok(()) => Ok(Touched { said, lying }),
-        Err(why) => {
-            drop(lying);
-            Err(why)
-        }
-    }
+    Ok(Touched { said, lying })
 }
 
 /// Touches all pages of a process of a host, from an address on so many bytes, and returns how many
@@ -172,7 +251,11 @@ fn touched_of(
     touch: Touch,
     start: u64,
     length: u64,
-) -> Result<u64, NoMemory> {
+) -> Result<u64, NoMemory>
+    ensures { (at : Sharing) → HugeLies huge.old at → IfOk result (λ exhausted.
+        (exhausted ≡ (touched_in process space.now touch start length at).1)
+        × HugeLies huge.new (touched_in process space.now touch start length at).0) }
+{
     let pages = page_count(length);
     if !huge.has_huge_in(process, start / PAGE_BYTES, pages) {
         return Ok(0);
@@ -188,6 +271,47 @@ fn touched_of(
     Ok(exhausted)
 }
 
+/// The pages of a process, if it has some.
+fn places_in(huge: &HostHuge, process: u32) -> Option<&HugePlaces>
+    ensures { (at : Sharing) → HugeLies huge.now at
+        → spots_lent result ≡ spots_if (memory_in process at) }
+{
+    match huge.pages_of(process) {
+        Some(kept) => Some(&kept.places),
+        None => None,
+    }
+}
+
+/// Adds the pages of a process that lie on each node, if it has some.
+fn add_counts_if(said: &mut FromPools, places: Option<&HugePlaces>)
+    ensures on { (node : ℕ) → node < 256 → slice_index said.new.on node
+        ≡ counted (spots_lent places.entry) node (slice_index said.old.on node) }
+    ensures exhausted { said.new.exhausted ≡ said.old.exhausted }
+{
+    match places {
+        Some(places) => add_counts(said, places),
+        None => {}
+    }
+}
+
+/// Adds where the pages of a process lie, of which so many no node gave.
+fn add_told(
+    alloc: Global,
+    places: Option<&HugePlaces>,
+    space: &Space,
+    there: &[Placed],
+    touched: &mut Touched,
+) -> Result<(), NoMemory>
+    ensures { (told : Told) → IsTold touched.old told → OnOk result (IsTold touched.new
+        (with_lying (nobody space.now.machine.nodes) there.now (spots_lent places.entry) told)) }
+{
+    add_counts_if(&mut touched.said, places);
+    let Ok(()) = add_lying(alloc, &mut touched.lying, places, space, there) else {
+        return Err(NoMemory);
+    };
+    Ok(())
+}
+
 /// Adds where the pages of a process lie once each was touched.
 fn add_touched(
     alloc: Global,
@@ -196,86 +320,99 @@ fn add_touched(
     touch: Touch,
     there: &[Placed],
     touched: &mut Touched,
-) -> Result<(), NoMemory> {
-    let exhausted = touched_of(huge, one.id, &one.space, touch, 0, MOST_BYTES)?;
-    touched.said.exhausted = touched.said.exhausted.saturating_add(exhausted);
-    let places = match huge.pages_of(one.id) {
-        Some(kept) => {
-            add_counts(&mut touched.said, &kept.places);
-            Some(&kept.places)
-        }
-        None => None,
+) -> Result<(), NoMemory>
+    ensures { (told : Told) → HugeLies huge.old told.at → IsTold touched.old told → OnOk result
+        (HugeLies huge.new (told_by touch there.now one.now told).at
+        × IsTold touched.new (told_by touch there.now one.now told)) }
+{
+    let Ok(exhausted) = touched_of(huge, one.id, &one.space, touch, 0, MOST_BYTES) else {
+        return Err(NoMemory);
     };
-    add_lying(alloc, &mut touched.lying, places, &one.space, there)
+    touched.said.exhausted = touched.said.exhausted.saturating_add(exhausted);
+    let Ok(()) = add_told(alloc, places_in(huge, one.id), &one.space, there, touched) else {
+        return Err(NoMemory);
+    };
+    Ok(())
+}
+
+/// Whether a process is asked of: each is, if none is named.
+fn is_asked(process: Option<u32>, id: u32) -> bool
+    ensures { result ≡ is_asked process id }
+{
+    match process {
+        None => true,
+        Some(process) => process == id,
+    }
+}
+
+/// The same, if a process is asked of.
+fn add_asked(
+    alloc: Global,
+    huge: &mut HostHuge,
+    one: &Process,
+    process: Option<u32>,
+    touch: Touch,
+    there: &[Placed],
+    touched: &mut Touched,
+) -> Result<(), NoMemory>
+    ensures { (told : Told) → HugeLies huge.old told.at → IsTold touched.old told → OnOk result
+        (HugeLies huge.new (told_if process touch there.now one.now told).at
+        × IsTold touched.new (told_if process touch there.now one.now told)) }
+{
+    if !is_asked(process, one.id) {
+        return Ok(());
+    }
+    add_touched(alloc, huge, one, touch, there, touched)
+}
+
+/// The same of processes, one after the other.
+fn add_each(
+    alloc: Global,
+    huge: &mut HostHuge,
+    processes: &[Process],
+    process: Option<u32>,
+    touch: Touch,
+    there: &[Placed],
+    touched: &mut Touched,
+) -> Result<(), NoMemory>
+    ensures { (told : Told) → HugeLies huge.old told.at → IsTold touched.old told → OnOk result
+        (HugeLies huge.new (told_each process touch there.now processes.now told).at
+        × IsTold touched.new (told_each process touch there.now processes.now told)) }
+{
+    let Some((one, rest)) = processes.split_first() else {
+        return Ok(());
+    };
+    let Ok(()) = add_asked(alloc, huge, one, process, touch, there, touched) else {
+        return Err(NoMemory);
+    };
+    add_each(alloc, huge, rest, process, touch, there, touched)
 }
 
 /// Where all pages of the processes of a host lie, or of one, once each was touched, those of one
 /// process after the other.
-fn from_shared(
+pub(crate) fn from_shared(
     alloc: Global,
     host: &Host,
     pages: &HostPages,
     process: Option<u32>,
     touch: Touch,
     there: &[Placed],
-) -> Result<Touched, NoMemory> {
-    let mut touched = Touched {
-        said: no_pages(),
-        lying: Vec::new(alloc),
+) -> Result<Touched, NoMemory>
+    ensures { (at : Sharing) → HugeLies pages.now.huge at → IfOk result (λ touched. IsTold touched
+        (told_each process touch there.now host.now.processes (told_from at))) }
+{
+    let Ok(mut huge) = pages.huge.copy() else {
+        return Err(NoMemory);
     };
-    let mut huge = pages.huge.copy()?;
-    for one in host.processes() {
-        if process.is_none() || process == Some(one.id) {
-            add_touched(alloc, &mut huge, one, touch, there, &mut touched)?;
-        }
-    }
+    let said = no_pages();
+    let lying = Vec::new(alloc);
+    let mut touched = Touched { said, lying };
+    let all = host.processes();
+    let Ok(()) = add_each(alloc, &mut huge, all, process, touch, there, &mut touched) else {
+        drop(huge);
+        drop(touched);
+        return Err(NoMemory);
+    };
     drop(huge);
     Ok(touched)
-}
-
-/// Where all pages lie after a script, once each was touched, if pools are known to it.
-fn from_script(
-    alloc: Global,
-    script: &HostScript,
-    process: Option<u32>,
-    touch: Touch,
-    there: &[Placed],
-) -> Option<Result<Touched, NoMemory>> {
-    if let (Some(pages), Some(host)) = (script.host_pages(), script.host()) {
-        if pages.huge.is_empty() {
-            return None;
-        }
-        return Some(from_shared(alloc, host, pages, process, touch, there));
-    }
-    let own = script.script()?;
-    let (kept, core) = (own.huge()?, own.core()?);
-    if kept.places.runs() == 0 {
-        return None;
-    }
-    Some(from_own(alloc, kept, core.space(), touch, there))
-}
-
-/// Where all pages would lie after a script, if each of 2 MiB were touched from the pools as they
-/// are, as `populate` does, beside those that are there; `None` if the script has no such pages.
-///
-/// # Errors
-/// `Stopped`: out of memory.
-pub(crate) fn from_pools(
-    alloc: Global,
-    script: &HostScript,
-    process: Option<u32>,
-    touch: Touch,
-    there: &[Placed],
-) -> Result<Option<Touched>, Halt> {
-    let Some(touched) = from_script(alloc, script, process, touch, there) else {
-        return Ok(None);
-    };
-    match touched {
-        Ok(touched) if touched.said.pages() > 0 => Ok(Some(touched)),
-        Ok(touched) => {
-            drop(touched);
-            Ok(None)
-        }
-        Err(_) => Err(Halt::Stopped(RunFault::Memory)),
-    }
 }
