@@ -2,21 +2,10 @@
  * back, where they refuse a call answers NP_NO_MEMORY, and calls that don't name that get none. Linked
  * with the archive, and with the shared library. Prints what is wrong; not proved. */
 #include "numaplan.h"
+#include "want.h"
 
-#include <stdio.h>
 #include <stdlib.h>
 #include <string.h>
-
-static int wrong;
-
-#define WANT(got, wanted)                                                                          \
-    do {                                                                                           \
-        unsigned long long got_ = (got), wanted_ = (wanted);                                       \
-        if (got_ != wanted_) {                                                                     \
-            printf("line %d: %s is %llu, not %llu\n", __LINE__, #got, got_, wanted_);              \
-            wrong = 1;                                                                             \
-        }                                                                                          \
-    } while (0)
 
 #define TEXT NP_TEXT
 

@@ -1,21 +1,10 @@
 /* The core and its plans from C: answers with values from the man pages and the header, closed and
  * opened handles, refused calls, and two threads on one plan. Prints what is wrong; not proved. */
 #include "numaplan.h"
+#include "want.h"
 
 #include <pthread.h>
-#include <stdio.h>
 #include <string.h>
-
-static int wrong;
-
-#define WANT(got, wanted)                                                                          \
-    do {                                                                                           \
-        unsigned long long got_ = (got), wanted_ = (wanted);                                       \
-        if (got_ != wanted_) {                                                                     \
-            printf("line %d: %s is %llu, not %llu\n", __LINE__, #got, got_, wanted_);              \
-            wrong = 1;                                                                             \
-        }                                                                                          \
-    } while (0)
 
 #define TEXT NP_TEXT
 

@@ -2,20 +2,10 @@
  * the man pages (mmap(2), mbind(2), numa(7)) and of the header, by hand. Prints what is wrong; not
  * proved. */
 #include "numaplan.h"
+#include "want.h"
 
 #include <stdio.h>
 #include <string.h>
-
-static int wrong;
-
-#define WANT(got, wanted)                                                                          \
-    do {                                                                                           \
-        unsigned long long got_ = (got), wanted_ = (wanted);                                       \
-        if (got_ != wanted_) {                                                                     \
-            printf("line %d: %s is %llu, not %llu\n", __LINE__, #got, got_, wanted_);              \
-            wrong = 1;                                                                             \
-        }                                                                                          \
-    } while (0)
 
 #define TEXT NP_TEXT
 

@@ -1,46 +1,11 @@
 /* Desks of which each growth is refused in turn, through the library's three functions of memory: a
  * call that is refused so answers NP_NO_MEMORY, and the desk is as it was. A reader that enters, and
  * each question, takes no memory and gives none back. Not proved. */
+#include "growths.h"
 #include "numaplan.h"
 
 #include <stdio.h>
-#include <stdlib.h>
 #include <string.h>
-
-struct tried {
-    bool ok;
-    void *at;
-};
-static long left = -1; /* how many growths are still let through; -1: all */
-static long blocks;    /* how many are held */
-static long calls;     /* of the three functions */
-static char nothing[16];
-
-static struct tried tried(void *at) {
-    struct tried got = {at != NULL, at ? at : nothing};
-    return got;
-}
-
-static bool refused(void) { return left >= 0 && left-- == 0; }
-
-struct tried rattle_alloc(size_t length, size_t align) {
-    void *at = refused() ? NULL : malloc(length ? length : align);
-    blocks += at != NULL;
-    calls++;
-    return tried(at);
-}
-
-struct tried rattle_realloc(void *at, size_t kept, size_t length, size_t align) {
-    (void)kept;
-    calls++;
-    return tried(refused() ? NULL : realloc(at, length ? length : align));
-}
-
-void rattle_dealloc(void *at) {
-    blocks--;
-    calls++;
-    free(at);
-}
 
 enum { FIRST = 16, PAGES = 64, TASK = 1, TURNS = 40 };
 #define TEXT(words) (const uint8_t *)(words), strlen(words)
@@ -131,18 +96,18 @@ static void look(void) {
             early = blocks;
         check(np_desk_mbind(&desk, FIRST * 4096, PAGES * 4096, TEXT(k % 2 ? "bind:1" : "bind:0")) ==
                       NP_OK && np_desk_publish(&desk, &version) == NP_OK, "a publish");
-        long before = calls;
+        long before = memory_calls;
         check(np_reader_enter(&readers[0], version, &version) == NP_OK, "an enter");
         check(np_reader_choice(&readers[0], TASK, FIRST, 0, nodes, PAGES, &count) == NP_OK, "a list");
         check(np_reader_fill(&readers[0], TASK, 0, FIRST, nodes, PAGES) == NP_OK, "a span");
         check(np_reader_counts(&readers[0], TASK, 0, FIRST, PAGES, &counts) == NP_OK, "counts");
         check(nodes[0] == k % 2 && counts.pages[k % 2] == PAGES, "the nodes of a version");
-        check(calls == before, "a look took or gave back memory");
+        check(memory_calls == before, "a look took or gave back memory");
     }
     check(blocks == early, "more and more plans are kept for a reader that stays behind");
-    long before = calls;
+    long before = memory_calls;
     check(np_reader_enter(&readers[1], version, &version) == NP_OK, "an enter from far behind");
-    check(calls == before, "an enter from far behind took or gave back memory");
+    check(memory_calls == before, "an enter from far behind took or gave back memory");
     np_reader_close(&readers[0]);
     np_desk_close(&desk);
     np_reader_close(&readers[1]);

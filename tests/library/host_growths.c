@@ -2,39 +2,11 @@
  * the call answers NP_NO_MEMORY and the host is as it was, or what it answers with memory; calls of
  * which the header says that they need none are never refused so; and no block is held at the end.
  * Not proved. */
+#include "growths.h"
 #include "numaplan_hosts.h"
-#include "numaplan_memory.h"
 
 #include <stdio.h>
-#include <stdlib.h>
 #include <string.h>
-
-static long left = -1; /* how many growths are still let through; -1: all */
-static long blocks;    /* how many are held */
-static char nothing[16];
-
-static np_tried tried(void *at) {
-    np_tried got = {at != NULL, at ? at : nothing};
-    return got;
-}
-
-static bool refused(void) { return left >= 0 && left-- == 0; }
-
-np_tried rattle_alloc(size_t length, size_t align) {
-    void *at = refused() ? NULL : malloc(length ? length : align);
-    blocks += at != NULL;
-    return tried(at);
-}
-
-np_tried rattle_realloc(void *at, size_t kept, size_t length, size_t align) {
-    (void)kept;
-    return tried(refused() ? NULL : realloc(at, length ? length : align));
-}
-
-void rattle_dealloc(void *at) {
-    blocks--;
-    free(at);
-}
 
 #define TEXT NP_TEXT
 

@@ -2,20 +2,9 @@
  * docs/SCRIPT.md, cpusets(7), migrate_pages(2), move_pages(2), mbind(2) and madvise(2), by hand.
  * Prints what is wrong; not proved. */
 #include "numaplan_hosts.h"
+#include "want.h"
 
-#include <stdio.h>
 #include <string.h>
-
-static int wrong;
-
-#define WANT(got, wanted)                                                                          \
-    do {                                                                                           \
-        unsigned long long got_ = (got), wanted_ = (wanted);                                       \
-        if (got_ != wanted_) {                                                                     \
-            printf("line %d: %s is %llu, not %llu\n", __LINE__, #got, got_, wanted_);              \
-            wrong = 1;                                                                             \
-        }                                                                                          \
-    } while (0)
 
 #define TEXT NP_TEXT
 #define BASE 0x10000 /* (page 16) */

@@ -2,20 +2,10 @@
  * two kernels, 6.12 and 6.1 (the lines of tests/worked/hosts that say so), and of docs/SCRIPT.md by
  * hand. Prints what is wrong; not proved. */
 #include "numaplan_hosts.h"
+#include "want.h"
 
 #include <stdio.h>
 #include <string.h>
-
-static int wrong;
-
-#define WANT(got, wanted)                                                                          \
-    do {                                                                                           \
-        unsigned long long got_ = (got), wanted_ = (wanted);                                       \
-        if (got_ != wanted_) {                                                                     \
-            printf("line %d: %s is %llu, not %llu\n", __LINE__, #got, got_, wanted_);              \
-            wrong = 1;                                                                             \
-        }                                                                                          \
-    } while (0)
 
 #define TEXT NP_TEXT
 #define MIB UINT64_C(0x100000)

@@ -2,21 +2,10 @@
  * cpusets(7), cgroups(7), fork(2) and set_mempolicy(2), and of docs/SCRIPT.md, by hand. Prints what
  * is wrong; not proved. */
 #include "numaplan_hosts.h"
+#include "want.h"
 
 #include <errno.h>
-#include <stdio.h>
 #include <string.h>
-
-static int wrong;
-
-#define WANT(got, wanted)                                                                          \
-    do {                                                                                           \
-        unsigned long long got_ = (got), wanted_ = (wanted);                                       \
-        if (got_ != wanted_) {                                                                     \
-            printf("line %d: %s is %llu, not %llu\n", __LINE__, #got, got_, wanted_);              \
-            wrong = 1;                                                                             \
-        }                                                                                          \
-    } while (0)
 
 #define TEXT NP_TEXT
 #define BEHIND 99 /* (what stands behind a list of nodes) */

@@ -1,23 +1,12 @@
 /* Pools of frames from C: which frames can be taken, by counting them by hand; refused calls and closed
  * handles; and four threads that share the frames of a node. Prints what is wrong; not proved. */
 #include "numaplan.h"
+#include "want.h"
 
 #include <pthread.h>
-#include <stdio.h>
 #include <string.h>
 
 enum { THREADS = 4, MOST = 4096 };
-
-static int wrong;
-
-#define WANT(got, wanted)                                                                          \
-    do {                                                                                           \
-        unsigned long long got_ = (got), wanted_ = (wanted);                                       \
-        if (got_ != wanted_) {                                                                     \
-            printf("line %d: %s is %llu, not %llu\n", __LINE__, #got, got_, wanted_);              \
-            wrong = 1;                                                                             \
-        }                                                                                          \
-    } while (0)
 
 #define TEXT NP_TEXT
 

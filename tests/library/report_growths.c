@@ -1,39 +1,11 @@
 /* Each growth of a report refused in turn, through the library's three functions of memory: the call
  * answers NP_NO_MEMORY and has changed nothing, or what it answers with memory, and no block is held.
  * Not proved. */
-#include "numaplan_memory.h"
+#include "growths.h"
 #include "numaplan_reports.h"
 
 #include <stdio.h>
-#include <stdlib.h>
 #include <string.h>
-
-static long left = -1; /* how many growths are still let through; -1: all */
-static long blocks;    /* how many are held */
-static char nothing[16];
-
-static np_tried tried(void *at) {
-    np_tried got = {at != NULL, at ? at : nothing};
-    return got;
-}
-
-static bool refused(void) { return left >= 0 && left-- == 0; }
-
-np_tried rattle_alloc(size_t length, size_t align) {
-    void *at = refused() ? NULL : malloc(length ? length : align);
-    blocks += at != NULL;
-    return tried(at);
-}
-
-np_tried rattle_realloc(void *at, size_t kept, size_t length, size_t align) {
-    (void)kept;
-    return tried(refused() ? NULL : realloc(at, length ? length : align));
-}
-
-void rattle_dealloc(void *at) {
-    blocks--;
-    free(at);
-}
 
 #define TEXT NP_TEXT
 #define HOST "machine 4 0-3 2 flat\nlimits 64 64 64\nmap 0x10000 0x8000 0x10\nmbend 1\n" \

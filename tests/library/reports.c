@@ -2,21 +2,11 @@
  * causes; and the same of cores. What the words print is compared by reports.py. Prints what is wrong;
  * not proved. */
 #include "numaplan_reports.h"
+#include "want.h"
 
 #include <stdio.h>
 #include <stdlib.h>
 #include <string.h>
-
-static int wrong;
-
-#define WANT(got, wanted)                                                                          \
-    do {                                                                                           \
-        unsigned long long got_ = (got), wanted_ = (wanted);                                       \
-        if (got_ != wanted_) {                                                                     \
-            printf("line %d: %s is %llu, not %llu\n", __LINE__, #got, got_, wanted_);              \
-            wrong = 1;                                                                             \
-        }                                                                                          \
-    } while (0)
 
 #define TEXT NP_TEXT
 

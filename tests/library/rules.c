@@ -3,20 +3,10 @@
  * mbind(2), cpusets(7) and linux/mempolicy.h, from what kernels answered (docs/KERNEL.md), and from
  * mm/page_alloc.c of the kernel. Prints what is wrong; not proved. */
 #include "numaplan.h"
+#include "want.h"
 
 #include <stdio.h>
 #include <string.h>
-
-static int wrong;
-
-#define WANT(got, wanted)                                                                          \
-    do {                                                                                           \
-        unsigned long long got_ = (got), wanted_ = (wanted);                                       \
-        if (got_ != wanted_) {                                                                     \
-            printf("line %d: %s is %llu, not %llu\n", __LINE__, #got, got_, wanted_);              \
-            wrong = 1;                                                                             \
-        }                                                                                          \
-    } while (0)
 
 #define TEXT NP_TEXT
 

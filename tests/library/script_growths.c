@@ -1,39 +1,12 @@
 /* Each growth of a script refused in turn, through the library's three functions of memory: the call
  * tells it by its number or in the line's answer, and the same line is then served. Not proved. */
+#include "growths.h"
 #include "numaplan.h"
-#include "numaplan_memory.h"
 
 #include <stdio.h>
-#include <stdlib.h>
 #include <string.h>
 
-static long left = -1; /* how many growths are still let through; -1: all */
-static long blocks;    /* how many are held */
-static char nothing[16];
 static int seen[NP_ANSWER_LOST + 1]; /* how often each number was answered */
-
-static np_tried tried(void *at) {
-    np_tried got = {at != NULL, at ? at : nothing};
-    return got;
-}
-
-static bool refused(void) { return left >= 0 && left-- == 0; }
-
-np_tried rattle_alloc(size_t length, size_t align) {
-    void *at = refused() ? NULL : malloc(length ? length : align);
-    blocks += at != NULL;
-    return tried(at);
-}
-
-np_tried rattle_realloc(void *at, size_t kept, size_t length, size_t align) {
-    (void)kept;
-    return tried(refused() ? NULL : realloc(at, length ? length : align));
-}
-
-void rattle_dealloc(void *at) {
-    blocks--;
-    free(at);
-}
 
 /* Pages that are interleaved over two nodes: 3,000 of them have an answer of 6,004 bytes. Then pages of
  * 2 MiB: the pools have one on each node, that of node 0 goes to the other, and one is unmapped. */

@@ -1,21 +1,11 @@
 /* Scripts from C: each pair of files (a script, and the answers to it) as a whole and line by line, and
  * handles that are closed and opened. Prints what is wrong; not proved. */
 #include "numaplan.h"
+#include "want.h"
 
 #include <stdio.h>
 #include <stdlib.h>
 #include <string.h>
-
-static int wrong;
-
-#define WANT(got, wanted)                                                                          \
-    do {                                                                                           \
-        unsigned long long got_ = (got), wanted_ = (wanted);                                       \
-        if (got_ != wanted_) {                                                                     \
-            printf("line %d: %s is %llu, not %llu\n", __LINE__, #got, got_, wanted_);              \
-            wrong = 1;                                                                             \
-        }                                                                                          \
-    } while (0)
 
 #define TEXT NP_TEXT
 

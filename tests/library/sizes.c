@@ -3,20 +3,10 @@
  * random mappings from a second model, page by page. Prints what is wrong; not proved. */
 #include "numaplan.h"
 #include "numaplan_reports.h"
+#include "want.h"
 
 #include <stdio.h>
 #include <string.h>
-
-static int wrong;
-
-#define WANT(got, wanted)                                                                          \
-    do {                                                                                           \
-        unsigned long long got_ = (got), wanted_ = (wanted);                                       \
-        if (got_ != wanted_) {                                                                     \
-            printf("line %d: %s is %llu, not %llu\n", __LINE__, #got, got_, wanted_);              \
-            wrong = 1;                                                                             \
-        }                                                                                          \
-    } while (0)
 
 #define TEXT(words) (const uint8_t *)(words), strlen(words)
 #define MIB ((uint64_t)1 << 20)

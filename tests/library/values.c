@@ -2,21 +2,11 @@
  * mbind(2), proc_pid_numa_maps(5), the kernel's comments on bitmap_remap and bitmap_fold, and the
  * header, whose names and numbers are in the file that the first argument names. Not proved. */
 #include "numaplan.h"
+#include "want.h"
 
 #include <errno.h>
 #include <stdio.h>
 #include <string.h>
-
-static int wrong;
-
-#define WANT(got, wanted)                                                                          \
-    do {                                                                                           \
-        unsigned long long got_ = (got), wanted_ = (wanted);                                       \
-        if (got_ != wanted_) {                                                                     \
-            printf("line %d: %s is %llu, not %llu\n", __LINE__, #got, got_, wanted_);              \
-            wrong = 1;                                                                             \
-        }                                                                                          \
-    } while (0)
 
 #define TEXT NP_TEXT
 
