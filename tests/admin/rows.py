@@ -14,22 +14,23 @@ import subprocess
 import sys
 import tempfile
 
-TOP = os.path.abspath(os.path.join(os.path.dirname(os.path.abspath(__file__)), "..", ".."))
+sys.path[:0] = [os.path.dirname(os.path.dirname(os.path.abspath(__file__)))]
+
+import harness
+from harness import TOP
+
 EMULATE = f"{TOP}/tools/numaplan-emulate"
 MACHINE = "rules linux\nmachine 4 0-3 0 10,12,20,22;12,10,22,20;20,22,10,12;22,20,12,10\n"
 SECONDS = 120
 room = tempfile.mkdtemp(prefix="admin-")
 os.chmod(room, 0o755)
 atexit.register(shutil.rmtree, room, ignore_errors=True)
-failed = False
 
 
 def tell(is_well, what, said=""):
-    global failed
-    failed |= not is_well
     if not is_well:
         print("  " + "\n  ".join(said.splitlines()[-12:]))
-    print(f"{'ok' if is_well else 'FAILED'} {what}")
+    harness.tell(is_well, what)
 
 
 def rows():
@@ -242,7 +243,7 @@ def main():
         elif found:
             found[0][1](settings, lines)
     try_threads()
-    sys.exit(failed)
+    harness.end()
 
 
 main()

@@ -2,21 +2,15 @@
 tells of the lines that run answers by a fault or a refusal, and of no others; and what predict,
 diff and explain answer is as without lines about pages. Not proved."""
 
-import os
 import random
 import re
-import subprocess
-import sys
-
-sys.dont_write_bytecode = True
-TOP = os.path.dirname(os.path.dirname(os.path.dirname(os.path.abspath(__file__))))
-sys.path[:0] = [TOP + "/tests/model", TOP + "/tests/worked"]
 
 import host_scripts
 import huge_scripts
 import move_scripts
 import scripts
 import worked
+from harness import run
 
 UNJUDGED = re.compile(rb"^not judged, since no machine was ready: (\d+)\n", re.M)
 # (By the other rules other lines may be refused.)
@@ -65,17 +59,10 @@ def script_of(seed):
 # ---- what run answers
 
 
-def call(program, *words):
-    """Status, output and errors of the program."""
-    done = subprocess.run([program, *words], stdin=subprocess.DEVNULL, capture_output=True,
-                          timeout=300)
-    return done.returncode, done.stdout, done.stderr
-
-
-def answered(program, name):
+def answered(name):
     """Each line of a script with its answer, None where it has none."""
     rows = []
-    for line in call(program, "run", "--echo", name)[1].split(b"\n")[:-1]:
+    for line in run("run", "--echo", name)[1].split(b"\n")[:-1]:
         said, answer = worked.parts_of(line)
         if said is not None:
             rows.append([said.decode("latin-1"), answer and answer.decode()])
@@ -185,29 +172,29 @@ def without_notes(output):
     return POOLS.sub(b"", RESIDENT.sub(b"", BY_OTHER.sub(b"", output)))
 
 
-def answer_difference(program, name, plain, rows, faults, unjudged):
+def answer_difference(name, plain, rows, faults, unjudged):
     """What is wrong with what the others tell and answer, or None."""
     with open(plain, "wb") as file:
         file.write(without_pages(rows))
     # Why lines `at` are refused isn't told where pages that are there don't matter.
     others = {place: answer for place, answer in faults.items() if not is_at(rows[place - 1][0])}
     for words in questions(rows):
-        status, output, error = call(program, *words, "--lenient", name)
+        status, output, error = run(*words, "--lenient", name)
         lines, count = told_by(name, TELLS_OTHER.sub(b"", error))
         lines = {place: it for place, it in lines.items() if not is_at(rows[place - 1][0])}
         if set(lines) != set(others) or count != unjudged:
             return f"{words[0]} tells of lines {sorted(lines)}, not of {sorted(others)}"
-        as_plain = call(program, *words, "--lenient", plain)[:2]
+        as_plain = run(*words, "--lenient", plain)[:2]
         if status != as_plain[0] or without_notes(output) != without_notes(as_plain[1]):
             return f"{words[0]} answers {(status, output)}, and without lines of pages {as_plain}"
     return None
 
 
-def difference(program, name, plain):
+def difference(name, plain):
     """What is wrong with what is told of a script in a file, or None. Without lines about pages it
     is written to the file `plain`."""
-    rows = answered(program, name)
+    rows = answered(name)
     faults, unjudged = wanted(rows)
-    status, output, _ = call(program, "check", name)
+    status, output, _ = run("check", name)
     wrong = difference_of("check", rows, faults, unjudged, status, told_by(name, output))
-    return wrong or answer_difference(program, name, plain, rows, faults, unjudged)
+    return wrong or answer_difference(name, plain, rows, faults, unjudged)

@@ -14,19 +14,15 @@ import hosts
 import numaplan
 from dask.distributed import Client
 
+sys.path.append(os.path.dirname(os.path.dirname(os.path.abspath(__file__))))
+
+import harness
+from harness import TOP, tell_equal
+
 COUNT = 600
-HERE = os.path.dirname(os.path.abspath(__file__))
-EXAMPLE = os.path.join(HERE, "../../python/examples/sweep_dask.py")
-RANGE = os.path.join(HERE, "../../examples/interleaved-range.numaplan")
-TRACE = os.path.join(HERE, "../../examples/replayed.trace")
-failed = 0
-
-
-def check(what, got, wanted):
-    """Prints whether something is as it is to be."""
-    global failed
-    print(f"ok {what}" if got == wanted else f"FAILED {what}: {got!r}, not {wanted!r}", flush=True)
-    failed += got != wanted
+EXAMPLE = TOP + "/python/examples/sweep_dask.py"
+RANGE = TOP + "/examples/interleaved-range.numaplan"
+TRACE = TOP + "/examples/replayed.trace"
 
 
 def start(folder, part, *words):
@@ -60,9 +56,9 @@ def sweep_hosts(client, victim):
     """The answers of all hosts; a worker is killed on the way."""
     asked = ((hosts.script(number), None, hosts.THEN) for number in range(COUNT))
     answers = list(kill_one(numaplan.sweep(asked, client.get_executor()), victim))
-    check(f"{COUNT} hosts, a worker of three killed on the way: no answer is lost or doubled",
-          (hosts.faults(answers, COUNT), victim.wait()), ([], -signal.SIGKILL))
-    check("and two workers are left", len(client.scheduler_info()["workers"]), 2)
+    tell_equal(f"{COUNT} hosts, a worker of three killed on the way: no answer is lost or doubled",
+               (hosts.faults(answers, COUNT), victim.wait()), ([], -signal.SIGKILL))
+    tell_equal("and two workers are left", len(client.scheduler_info()["workers"]), 2)
 
 
 def try_example(address):
@@ -73,9 +69,9 @@ def try_example(address):
     rows = {row["number"]: row for row in csv.DictReader(said.stdout.splitlines())}
     # (0x30000 is accessed 1000 times from node 3 and 58 times from node 0, 0x31000 200 times from node
     # 3, 0x32000 once from node 1; 20 is the distance of 0 and 3, of 1 and 3, and of 0 and 2)
-    check("the example", (said.returncode, {k: row["distances"] for k, row in rows.items()}),
-          (0, {"0": "D10=58 D12=1 D20=1200", "1": "D10=1200 D20=59", "2": "D10=50 D20=1209"}))
-    check("tells a faulty line", rows["2"]["faults"].split(":")[:3], ["--then", "1", " bad list Empty"])
+    tell_equal("the example", (said.returncode, {k: row["distances"] for k, row in rows.items()}),
+               (0, {"0": "D10=58 D12=1 D20=1200", "1": "D10=1200 D20=59", "2": "D10=50 D20=1209"}))
+    tell_equal("tells a faulty line", rows["2"]["faults"].split(":")[:3], ["--then", "1", " bad list Empty"])
 
 
 with tempfile.TemporaryDirectory() as folder:
@@ -93,4 +89,4 @@ with tempfile.TemporaryDirectory() as folder:
         for part in parts:
             part.kill()
             part.wait()
-sys.exit(failed > 0)
+harness.end()

@@ -18,19 +18,14 @@ import hosts
 import numaplan
 from numaplan import Question, sweep
 
-HERE = os.path.dirname(os.path.abspath(__file__))
-TOP = os.path.join(HERE, "..", "..")
+sys.path.append(os.path.dirname(os.path.dirname(os.path.abspath(__file__))))
+
+import harness
+from harness import TOP, tell_equal
+
 RANGE = os.path.join(TOP, "examples", "interleaved-range.numaplan")
 TRACE = os.path.join(TOP, "examples", "replayed.trace")
-failed = 0
 multiprocessing.set_start_method("fork")  # (so that those of an executor have what is put in place here)
-
-
-def check(what, got, wanted):
-    """Prints whether something is as it is to be."""
-    global failed
-    print(f"ok {what}" if got == wanted else f"FAILED {what}: {got!r}, not {wanted!r}", flush=True)
-    failed += got != wanted
 
 
 def raised(call):
@@ -86,41 +81,42 @@ def ask_hosts(folder):
 
 
 with tempfile.TemporaryDirectory() as folder:
-    check("200 hosts on four processes, as by arithmetic",
-          hosts.faults(list(sweep(ask_hosts(folder), workers=4)), 200), [])
-    check("the same on two threads, of an executor that is handed in",
-          hosts.faults(list(sweep(ask_hosts(folder), THREADS)), 200), [])
-check("no questions", list(sweep([])), [])
+    tell_equal("200 hosts on four processes, as by arithmetic",
+               hosts.faults(list(sweep(ask_hosts(folder), workers=4)), 200), [])
+    tell_equal("the same on two threads, of an executor that is handed in",
+               hosts.faults(list(sweep(ask_hosts(folder), THREADS)), 200), [])
+tell_equal("no questions", list(sweep([])), [])
 # (docs/COMMANDS.md works these out)
 answer = one(RANGE, task=1, node=3)
-check("a prediction", (answer.nodes, answer.moved, answer.faults), ({0: 3, 1: 1, 2: 2}, {}, []))
+tell_equal("a prediction", (answer.nodes, answer.moved, answer.faults), ({0: 3, 1: 1, 2: 2}, {}, []))
 answer = one(RANGE, None, ["mbind 0x30000 0x4000 bind:3"], 1, 3)
-check("what if", (answer.nodes, answer.moved),
-      ({0: 1, 2: 1, 3: 4}, {(0, 3): 2, (1, 3): 1, (2, 3): 1}))
+tell_equal("what if", (answer.nodes, answer.moved),
+           ({0: 1, 2: 1, 3: 4}, {(0, 3): 2, (1, 3): 1, (2, 3): 1}))
 answer = one(RANGE, node=3, free={0: 2, 1: 0})
-check("free pages", (answer.nodes, answer.exhausted), ({0: 2, 2: 4}, 0))
-check("free pages run out", one(b"machine 1 0 0 flat\nmap 0 0x3000 0\n", free={0: 1}).exhausted, 2)
+tell_equal("free pages", (answer.nodes, answer.exhausted), ({0: 2, 2: 4}, 0))
+tell_equal("free pages run out", one(b"machine 1 0 0 flat\nmap 0 0x3000 0\n", free={0: 1}).exhausted, 2)
 for script, trace in ((RANGE, TRACE), (open(RANGE, "rb").read(), open(TRACE, "rb").read())):
     answer = one(script, trace)
-    check("a replay", (answer.nodes, answer.distances, answer.placed, answer.unserved),
-          ({0: 1050, 1: 200, 2: 9}, {10: 50, 20: 1209}, 3, 0))
+    tell_equal("a replay", (answer.nodes, answer.distances, answer.placed, answer.unserved),
+               ({0: 1050, 1: 200, 2: 9}, {10: 50, 20: 1209}, 3, 0))
 # (all on node 0: 58 accesses from there, one from node 1 at 12, 1200 from node 3 at 20)
 answer = one(RANGE, TRACE, ["mems 0"])
-check("a replay behind added lines", answer.distances, {10: 58, 12: 1, 20: 1200})
+tell_equal("a replay behind added lines", answer.distances, {10: 58, 12: 1, 20: 1200})
 with open(os.path.join(TOP, "tests", "tools", "samples", "cxl.numactl"), encoding="utf-8") as file:
     machine = numaplan.machine_lines(file.read())
-check("on a machine as numactl prints it", one(machine + b"map 0 0x4000 0\ntask 1 interleave:0,2\n").nodes, {0: 2, 2: 2})
+tell_equal("on a machine as numactl prints it",
+           one(machine + b"map 0 0x4000 0\ntask 1 interleave:0,2\n").nodes, {0: 2, 2: 2})
 moves = b"machine 2 0-1 0 flat\nmap 0 0x1000 0\ntask 1 prefer:1\nmems 0\nmems 0-1\n"
-check("by both rules", [one(moves, rules=rules).nodes for rules in ("document", "linux")],
-      [{0: 1}, {1: 1}])
+tell_equal("by both rules", [one(moves, rules=rules).nodes for rules in ("document", "linux")],
+           [{0: 1}, {1: 1}])
 
 # ---- what failed, and why
 
 answer = one(RANGE, None, ["task 1 interlave:0-1"], node=3)
-check("a faulty line is told, and passed over", (answer.failed, answer.nodes, answer.faults), (None, {
+tell_equal("a faulty line is told, and passed over", (answer.failed, answer.nodes, answer.faults), (None, {
     0: 3, 1: 1, 2: 2}, ["--then:1: bad policy UnknownMode: what stands before the colon is none of default, local,"
                             " bind, prefer, many, interleave and weighted, nor one of these with =static or =relative"]))
-check("in bytes, too", one(b"machine 1 0 0 flat\nmap 1 2 3 4\n").faults[0][:18], "-:2:11: bad words:")
+tell_equal("in bytes, too", one(b"machine 1 0 0 flat\nmap 1 2 3 4\n").faults[0][:18], "-:2:11: bad words:")
 WHY = [
     (("/none.numaplan",), "can't read '/none.numaplan': No such file or directory"),
     ((RANGE, None, (), 1, 4),
@@ -132,7 +128,7 @@ WHY = [
 ]
 for fields, why in WHY:
     answer = one(*fields)
-    check(f"failed: {why[:40]}..", (answer.failed, answer.nodes, answer.json), (why, {}, ""))
+    tell_equal(f"failed: {why[:40]}..", (answer.failed, answer.nodes, answer.json), (why, {}, ""))
 FAULTY = [
     (Question(RANGE, task=-1), "ValueError: task is -1; it has to be from 0 to 4294967295"),
     (Question(RANGE, node="0"), "TypeError: node is '0'; it has to be a whole number"),
@@ -144,7 +140,7 @@ FAULTY = [
      "ValueError: free is for questions without a trace, which goes by the machine's frames"),
 ]
 for question, why in FAULTY:
-    check(f"refused: {why[:50]}..", raised(lambda: list(sweep([question]))), why)
+    tell_equal(f"refused: {why[:50]}..", raised(lambda: list(sweep([question]))), why)
 
 # ---- lost workers
 
@@ -159,8 +155,8 @@ def kill_one(answers, after):
 
 asked = [(hosts.script(number), None, hosts.THEN) for number in range(120)]
 for after in (5, 60):
-    check(f"a worker killed after {after} answers: none is lost or doubled",
-          hosts.faults(list(kill_one(sweep(asked, workers=4), after)), 120), [])
+    tell_equal(f"a worker killed after {after} answers: none is lost or doubled",
+               hosts.faults(list(kill_one(sweep(asked, workers=4), after)), 120), [])
 DEADLY = """import os, signal
 import numaplan._questions as questions
 answer_it = questions.answer
@@ -182,30 +178,30 @@ with tempfile.TemporaryDirectory() as folder:
     numaplan._processes.end_kept()
     os.environ["PYTHONPATH"] = path
 ended = [(each.number, each.failed) for each in answers if each.failed]
-check("a question that ends each worker fails, and no other",
-      (ended, hosts.faults([each for each in answers if not each.failed], 120)),
-      ([(120, "no answer came, 3 times: ChildProcessError: a worker ended with status -9")], []))
+tell_equal("a question that ends each worker fails, and no other",
+           (ended, hosts.faults([each for each in answers if not each.failed], 120)),
+           ([(120, "no answer came, 3 times: ChildProcessError: a worker ended with status -9")], []))
 answer_it = numaplan._questions.answer
 exec(DEADLY)
 with ProcessPoolExecutor(2) as pool:
     try:
         list(sweep([(RANGE, None, ["deadly"])] * 3, pool))
-        check("an executor that is broken is told", "nothing", "BrokenProcessPool")
+        tell_equal("an executor that is broken is told", "nothing", "BrokenProcessPool")
     except BrokenProcessPool:
-        check("an executor that is broken is told", "told", "told")
+        tell_equal("an executor that is broken is told", "told", "told")
 numaplan._questions.answer = answer_it
 
 # ---- processes that are kept, and ends
 
-check("two sweeps have the same processes",
-      [(len(list(sweep(asked, workers=2))), own_workers()) for _ in range(2)][::-1],
-      [(120, own_workers())] * 2)
+tell_equal("two sweeps have the same processes",
+           [(len(list(sweep(asked, workers=2))), own_workers()) for _ in range(2)][::-1],
+           [(120, own_workers())] * 2)
 first, second = sweep(asked, workers=1), sweep(asked, workers=2)
 answers = [next(first)], [next(second)]
-check("two sweeps at a time", [hosts.faults(begun + list(rest), 120) for begun, rest in zip(answers, (first, second))],
-      [[], []])
+tell_equal("two sweeps at a time",
+           [hosts.faults(begun + list(rest), 120) for begun, rest in zip(answers, (first, second))], [[], []])
 os.kill(own_workers()[0], signal.SIGKILL)
-check("one that ended meanwhile is none of them", hosts.faults(list(sweep(asked, workers=3)), 120), [])
+tell_equal("one that ended meanwhile is none of them", hosts.faults(list(sweep(asked, workers=3)), 120), [])
 begun = sweep(asked, workers=3)
 next(begun)
 kept = own_workers()
@@ -216,17 +212,17 @@ if child == 0:  # (which neither uses nor ends what is its parent's)
     done = hosts.faults(list(sweep(asked[:2], workers=1)), 2) == [] and not set(own_workers()) & set(kept)
     numaplan._processes.end_kept()
     os._exit(0 if done else 1)
-check("a child by a fork sweeps with processes of its own", os.waitpid(child, 0)[1], 0)
-check("and its parent's sweep goes on", (len(list(begun)), own_workers()), (119, kept))
+tell_equal("a child by a fork sweeps with processes of its own", os.waitpid(child, 0)[1], 0)
+tell_equal("and its parent's sweep goes on", (len(list(begun)), own_workers()), (119, kept))
 begun = sweep(asked, workers=2)
 next(begun)
 begun.close()
 numaplan._processes.end_kept()
-check("a sweep that is left ends its processes", own_workers(), [])
-check("so does a faulty question", raised(lambda: list(sweep(asked[:50] + [Question(3)], workers=2))),
-      "TypeError: script is 3; hand in the name of a file, or its text as bytes")
+tell_equal("a sweep that is left ends its processes", own_workers(), [])
+tell_equal("so does a faulty question", raised(lambda: list(sweep(asked[:50] + [Question(3)], workers=2))),
+           "TypeError: script is 3; hand in the name of a file, or its text as bytes")
 numaplan._processes.end_kept()
-check("and leaves no process", own_workers(), [])
+tell_equal("and leaves no process", own_workers(), [])
 with tempfile.NamedTemporaryFile("w", suffix=".py") as file:
     file.write("import multiprocessing, sys, numaplan\nmultiprocessing.set_start_method(sys.argv[1])\n"
                "print(*(one.nodes for one in numaplan.sweep([b'machine 1 0 0 flat\\nmap 0 4096 0\\n'])))\n")
@@ -234,7 +230,7 @@ with tempfile.NamedTemporaryFile("w", suffix=".py") as file:
     for method in ("fork", "spawn", "forkserver"):
         ran = subprocess.run([sys.executable, file.name, method], stdin=subprocess.DEVNULL, capture_output=True,
                              text=True)
-        check(f"a program without a main part, by {method}", (ran.stdout, ran.stderr), ("{0: 1}\n", ""))
+        tell_equal(f"a program without a main part, by {method}", (ran.stdout, ran.stderr), ("{0: 1}\n", ""))
 LONG = """if True:
     import sys, numaplan, numaplan._progress
     numaplan._progress.FIRST = 0.1
@@ -259,8 +255,8 @@ for number, what, words in ((signal.SIGINT, "an interrupt", ("interrupted\n", ""
     long.stdout.readline()
     kept = workers_of(long.pid)
     os.killpg(long.pid, number)
-    check(f"{what} ends a sweep, and without a word of its workers", long.communicate(timeout=120), words)
-    check("and leaves no process", (len(kept), left_of(kept)), (2, []))
+    tell_equal(f"{what} ends a sweep, and without a word of its workers", long.communicate(timeout=120), words)
+    tell_equal("and leaves no process", (len(kept), left_of(kept)), (2, []))
 
 # ---- progress
 
@@ -276,12 +272,12 @@ with open(here, "rb", buffering=0) as terminal:
         pass
     shown.wait()
 lines = text.decode().split("\r\x1b[K")
-check("a terminal shows how far it is",
-      (lines[1][:10], " of 6,000 answers in 0:0" in lines[1], lines[-1]), ("numaplan: ", True, ""))
+tell_equal("a terminal shows how far it is",
+           (lines[1][:10], " of 6,000 answers in 0:0" in lines[1], lines[-1]), ("numaplan: ", True, ""))
 quiet = start(6000, stdout=subprocess.DEVNULL, stderr=subprocess.PIPE)
-check("and nothing else is shown it", quiet.communicate()[1], "")
+tell_equal("and nothing else is shown it", quiet.communicate()[1], "")
 with tempfile.TemporaryFile("w+") as file:
-    check("what is looked at, with its progress", list(numaplan.progress("abc", "letters")), list("abc"))
+    tell_equal("what is looked at, with its progress", list(numaplan.progress("abc", "letters")), list("abc"))
 
 # ---- tables
 
@@ -296,10 +292,10 @@ answers = sweep([(RANGE, None, ["mbind 0x30000 0x4000 bind:3", "mems 0-3"], 1, 3
 with io.StringIO(newline="") as file:
     many = numaplan.write_table(sorted(answers), file)
     table = file.getvalue().replace(os.path.abspath(RANGE), "RANGE").replace(os.path.abspath(TRACE), "TRACE")
-check("a table", (many, table.replace("\r\n", "\n")), (1, TABLE))
+tell_equal("a table", (many, table.replace("\r\n", "\n")), (1, TABLE))
 said = subprocess.run([sys.executable, os.path.join(TOP, "python/examples/sweep.py"), "--node", "3", "--then",
                        "mbind 0x30000 0x4000 bind:3", RANGE, RANGE], stdout=subprocess.PIPE, text=True)
 rows = list(csv.DictReader(said.stdout.splitlines()))
-check("the example", [said.returncode] + sorted((row["number"], row["moves"]) for row in rows),
-      [0, ("0", "N0->N3=2 N1->N3=1 N2->N3=1"), ("1", "N0->N3=2 N1->N3=1 N2->N3=1")])
-sys.exit(failed > 0)
+tell_equal("the example", [said.returncode] + sorted((row["number"], row["moves"]) for row in rows),
+           [0, ("0", "N0->N3=2 N1->N3=1 N2->N3=1"), ("1", "N0->N3=2 N1->N3=1 N2->N3=1")])
+harness.end()
