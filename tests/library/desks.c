@@ -97,7 +97,7 @@ static void words(void) {
     np_nodes second, none;
     uint64_t accepted = 0, published = 0;
     unsigned long mask = 2;
-    CHECK(np_nodes_of(&mask, 3, &second) == NP_OK && np_nodes_of(&mask, 0, &none) == NP_OK);
+    CHECK(np_nodes_of(&mask, 3, &second) == NP_OK && np_nodes_of(NULL, 0, &none) == NP_OK);
     CHECK(np_desk_mbind_by(&desk, 4096, 4096, 7, &second) == NP_UNKNOWN_MODE);
     CHECK(np_desk_set_task_by(&desk, 1, BIND, &none) == NP_NODES_MISSING);
     CHECK(np_desk_home_by(&desk, 4096, 4096, 1, 1) == NP_FLAGS_FORBIDDEN);
